@@ -1,6 +1,6 @@
 -- Where a queue takes every request of a list, its ranks are those of the plain list: for any queue that holds what went in and has not come out,
 -- gives the least, and answers a replace as a pop.
-use Rattle.laws.specs.Prelude.{Answer, Bool, Done, Element, Idle, List, Out, Pop, Push, Refused, Replace, Request, [], ◌+◌, ◌<◌, ◌∙◌, ◌∷◌, ◌≡◌, ◌≤◌, ap, ap₂, arith, blank, cond, element_of, false, le-ltb, length, lt-ltb, ltb, ltb-false, ltb-true, map, not-suc-le-zero, number_of, rank_of, refl, subst, suc, sym, true, zero, ℕ}
+use Rattle.laws.specs.Prelude.{Answer, Bool, Element, Idle, List, Pop, Push, Replace, Request, [], ◌+◌, ◌<◌, ◌∙◌, ◌∷◌, ◌≡◌, ◌≤◌, ap, ap₂, arith, blank, cond, element_of, false, le-ltb, length, lt-ltb, ltb, ltb-false, ltb-true, map, not-suc-le-zero, number_of, rank_of, refl, subst, suc, sym, true, zero, ℕ, Ok, None, Some, Err}
 use Rattle.agreement.specs.Plain.{insert, numbered, number_for, plain, plainly, plainly_by, Taken}
 use Rattle.promise.specs.Prelude.{Kind, Least, Step, always, answers, brought, given, hit, lower, unrefused}
 
@@ -61,9 +61,9 @@ insert-length r (p ∷ l) = go (ltb r p) (insert-length r l)
 -- a refused request has rank 0, brings nothing in and gives nothing out
 refused-rank : (a : Answer) (n : ℕ) → number_of a ≡ suc n → rank_of a ≡ 0
 unfolding blank
-refused-rank Done n e = refl
-refused-rank (Out x) n e = absurd (omega arith)
-refused-rank (Refused x) n e = refl
+refused-rank (Ok None) n e = refl
+refused-rank (Ok (Some x)) n e = absurd (omega arith)
+refused-rank (Err x) n e = refl
 
 refused-still : (r : Request) (a : Answer) (n : ℕ) → number_of a ≡ suc n → (f : Element → Bool) → (given r a f ≡ 0) × (brought r a f ≡ 0)
 refused-still Idle a n e f = (refl, refl)

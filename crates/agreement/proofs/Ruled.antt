@@ -1,5 +1,5 @@
 -- What a request comes to by the table of refusals refuses as a plain list does.
-use Rattle.laws.specs.Prelude.{Bool, Done, Element, Empty, Full, Idle, NoTag, Out, Pop, Push, Refused, Replace, Request, ◌≡◌, cond, eqb, false, ltb, number_of, refl, true, untagged, ℕ}
+use Rattle.laws.specs.Prelude.{Bool, Element, Empty, Full, Idle, NoTag, Pop, Push, Replace, Request, ◌≡◌, cond, eqb, false, ltb, number_of, refl, true, untagged, ℕ, Ok, None, Some, Err}
 use Rattle.agreement.specs.Plain.{number_for}
 use Rattle.promise.specs.Prelude.{Ruling, last_table, ruled, ruling}
 
@@ -8,18 +8,18 @@ pub ruled-number : {W : Type 0} (op : Request → W) (c : ℕ) (r : Request) (h 
 ruled-number op c Idle h e = refl
 ruled-number {W} op c (Push x) h e = go (untagged x) (ltb h c)
   where
-    go : (t f : Bool) → number_of (cond {A = Ruling W} t (ruling (Refused NoTag) (op Idle)) (cond {A = Ruling W} f (ruling Done (op (Push x))) (ruling (Refused Full) (op Idle)))).answer ≡ cond t 7 (cond f 0 5)
+    go : (t f : Bool) → number_of (cond {A = Ruling W} t (ruling (Err NoTag) (op Idle)) (cond {A = Ruling W} f (ruling (Ok None) (op (Push x))) (ruling (Err Full) (op Idle)))).answer ≡ cond t 7 (cond f 0 5)
     go true f = refl
     go false true = refl
     go false false = refl
 ruled-number {W} op c Pop h e = go (eqb h 0)
   where
-    go : (b : Bool) → number_of (cond {A = Ruling W} b (ruling (Refused Empty) (op Idle)) (ruling (Out e) (op Pop))).answer ≡ cond b 6 0
+    go : (b : Bool) → number_of (cond {A = Ruling W} b (ruling (Err Empty) (op Idle)) (ruling (Ok (Some e)) (op Pop))).answer ≡ cond b 6 0
     go true = refl
     go false = refl
 ruled-number {W} op c (Replace x) h e = go (untagged x) (eqb h 0)
   where
-    go : (t b : Bool) → number_of (cond {A = Ruling W} t (ruling (Refused NoTag) (op Idle)) (cond {A = Ruling W} b (ruling (Refused Empty) (op Idle)) (ruling (Out e) (op (Replace x))))).answer ≡ cond t 7 (cond b 6 0)
+    go : (t b : Bool) → number_of (cond {A = Ruling W} t (ruling (Err NoTag) (op Idle)) (cond {A = Ruling W} b (ruling (Err Empty) (op Idle)) (ruling (Ok (Some e)) (op (Replace x))))).answer ≡ cond t 7 (cond b 6 0)
     go true b = refl
     go false true = refl
     go false false = refl

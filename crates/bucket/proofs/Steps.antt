@@ -1,14 +1,14 @@
 -- From what a call has tested to what its next step asks for.
-use Rattle.laws.specs.Prelude.{Bool, List, ◌&&◌, ◌<◌, ◌≡◌, ◌≤◌, and_left, and_right, arith, eqb, means-eqb, means-not, not, subst, sym, true, ℕ}
+use Rattle.laws.specs.Prelude.{Bool, List, ◌&&◌, ◌<◌, ◌≡◌, ◌≤◌, and_left, and_right, arith, eqb, false, means-eqb, means-not, not, subst, sym, true, ℕ}
 use lib.Dec.{lit≤}
 use Rattle.bucket_model.specs.declared.Lay.{Lay}
-use Rattle.bucket_model.specs.declared.Lowest.{Lowest}
-use Rattle.bucket_model.specs.declared.Room.{Room}
+use Rattle.bucket_model.specs.Calls.{Lowest}
+use Rattle.bucket_model.specs.Calls.{Room}
 use Rattle.bucket_model.specs.Prelude.{bit_words, is_shaped, is_whole, least_storeys, most_storeys, queue, room_after, room_of, taken_bits, taken_words, word, words_of}
 use Rattle.bucket_model.proofs.Laws.{laid_of, shape-means, whole-means}
 use Rattle.bucket_bits.proofs.Numbers.{words-le}
-use Rattle.bucket_step.specs.Tested.{Stands, Roomy, FoundRoom, Freeing, room_freed}
-use Rattle.bucket_step.proofs.Read.{after_is}
+use Rattle.bucket_step.specs.Tested.{FoundRoom, Freeing, Roomy, Stands, links_in, room_freed}
+use Rattle.bucket_step.proofs.Read.{after_is, freed-none}
 use Rattle.bucket_step.specs.Stores.{Joining}
 use Rattle.bucket_step.proofs.Steps as steps
 use Rattle.bucket.specs.Stores.{Placed}
@@ -51,3 +51,7 @@ module _ (k : Lay) (b w : List ℕ) where
 -- the tests as after the pop are those of the rules
 pub after : (k : Lay) (b w : List ℕ) (low : Lowest) (r : ℕ) (good? : Bool) (to : Room) → Freeing k b w low → is_whole k b w ≡ true → FoundRoom good? to (room_freed k (taken_bits k b low) (taken_words k w low) r) → FoundRoom good? to (room_after k (taken_bits k b low) (taken_words k w low) r)
 after k b w low r good? to f h e = subst (λ (x : Room). FoundRoom good? to x) (after_is k b w low f r ((whole-means k b w).says h)) e
+
+-- .. and where they fail, none is found
+pub after-none : (k : Lay) (b w : List ℕ) (low : Lowest) (r : ℕ) → Freeing k b w low → is_whole k b w ≡ true → links_in k (taken_words k w low) r ≡ false → (room_after k (taken_bits k b low) (taken_words k w low) r).good ≡ false
+after-none k b w low r f h e = subst (λ (x : Room). x.good ≡ false) (after_is k b w low f r ((whole-means k b w).says h)) (freed-none k b w low f.takable r e)

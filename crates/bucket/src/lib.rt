@@ -22,7 +22,7 @@ use bucket_step::tests::{
     limit_or_damage, may_come, rank_or_tag, room_after,
 };
 use bucket_step::{join, show, swap, take};
-use strip::{Answer, Count, Element, Refusal};
+use strip::{Answer, Element, Refusal};
 
 // ---- a queue of n nodes, of either depth
 
@@ -31,17 +31,17 @@ pub fn clear(bits: &mut [u64], words: &mut [u32], storeys: usize, n: u32) -> Ans
     ensures { outcome result bits.new words.new ≡ cleared (queue storeys n) bits.old words.old }
 {
     if !is_deep(storeys) {
-        return Answer::Refused(Refusal::BadShape);
+        return Err(Refusal::BadShape);
     }
     clear_laid(bits, words, queue_of(storeys, n))
 }
 
 // How many are held.
-pub fn held(bits: &[u64], words: &[u32], storeys: usize, n: u32) -> Count
+pub fn held(bits: &[u64], words: &[u32], storeys: usize, n: u32) -> Result<u32, Refusal>
     ensures { result ≡ held_count (queue storeys n) bits.now words.now }
 {
     if !is_deep(storeys) {
-        return Count::Unknown(Refusal::BadShape);
+        return Err(Refusal::BadShape);
     }
     held_laid(bits, words, queue_of(storeys, n))
 }
@@ -50,13 +50,12 @@ pub fn held(bits: &[u64], words: &[u32], storeys: usize, n: u32) -> Count
 pub fn pop(bits: &mut [u64], words: &mut [u32], storeys: usize, n: u32) -> Answer
     ensures { outcome result bits.new words.new ≡ popped (queue storeys n) bits.old words.old }
 {
-    let mut answer = Answer::Refused(Refusal::BadShape);
-    let mut d = LEAST_STOREYS;
-    while d <= MOST_STOREYS {
+    // no return from within: with one the compiler makes one body of both depths, and a pop takes 151 instructions for 127
+    let mut answer = Err(Refusal::BadShape);
+    for d in LEAST_STOREYS..MOST_STOREYS + 1 {
         if d == storeys {
             answer = pop_laid(bits, words, queue_of(d, n));
         }
-        d += 1;
     }
     answer
 }
@@ -65,15 +64,12 @@ pub fn pop(bits: &mut [u64], words: &mut [u32], storeys: usize, n: u32) -> Answe
 pub fn push(bits: &mut [u64], words: &mut [u32], storeys: usize, n: u32, e: Element) -> Answer
     ensures { outcome result bits.new words.new ≡ pushed (queue storeys n) bits.old words.old e }
 {
-    let mut answer = Answer::Refused(Refusal::BadShape);
-    let mut d = LEAST_STOREYS;
-    while d <= MOST_STOREYS {
+    for d in LEAST_STOREYS..MOST_STOREYS + 1 {
         if d == storeys {
-            answer = push_laid(bits, words, queue_of(d, n), e);
+            return push_laid(bits, words, queue_of(d, n), e);
         }
-        d += 1;
     }
-    answer
+    Err(Refusal::BadShape)
 }
 
 // A pop, and then a push of the newcomer: the first element of the lowest rank, even if the newcomer's rank is lower.
@@ -81,7 +77,7 @@ pub fn replace(bits: &mut [u64], words: &mut [u32], storeys: usize, n: u32, e: E
     ensures { outcome result bits.new words.new ≡ replaced (queue storeys n) bits.old words.old e }
 {
     if !is_deep(storeys) {
-        return Answer::Refused(Refusal::BadShape);
+        return Err(Refusal::BadShape);
     }
     replace_laid(bits, words, queue_of(storeys, n), e)
 }
@@ -93,24 +89,24 @@ fn clear_laid(bits: &mut [u64], words: &mut [u32], k: Lay) -> Answer
     ensures { outcome result bits.new words.new ≡ cleared k bits.old words.old }
 {
     if !is_shaped(bits, words, k) {
-        return Answer::Refused(Refusal::BadShape);
+        return Err(Refusal::BadShape);
     }
     wipe(bits, k.bits + k.tower);
     wipe_words(words, k);
-    Answer::Done
+    Ok(None)
 }
 
-fn held_laid(bits: &[u64], words: &[u32], k: Lay) -> Count
+fn held_laid(bits: &[u64], words: &[u32], k: Lay) -> Result<u32, Refusal>
     requires { Placed k }
     ensures { result ≡ held_count k bits.now words.now }
 {
     if !is_shaped(bits, words, k) {
-        return Count::Unknown(Refusal::BadShape);
+        return Err(Refusal::BadShape);
     }
     if !is_whole(bits, words, k) {
-        return Count::Unknown(Refusal::Damaged);
+        return Err(Refusal::Damaged);
     }
-    Count::Held(held_count(words, k))
+    Ok(held_count(words, k))
 }
 
 fn pop_laid(bits: &mut [u64], words: &mut [u32], k: Lay) -> Answer
@@ -118,18 +114,17 @@ fn pop_laid(bits: &mut [u64], words: &mut [u32], k: Lay) -> Answer
     ensures { outcome result bits.new words.new ≡ popped k bits.old words.old }
 {
     if !is_shaped(bits, words, k) {
-        return Answer::Refused(Refusal::BadShape);
+        return Err(Refusal::BadShape);
     }
     if !has_some(bits, words, k) {
-        return Answer::Refused(limit_or_damage(bits, words, k, Refusal::Empty));
+        return Err(limit_or_damage(bits, words, k, Refusal::Empty));
     }
-    let low = find_lowest(bits, words, k);
-    if !low.good {
-        return Answer::Refused(Refusal::Damaged);
-    }
+    let Some(low) = find_lowest(bits, words, k) else {
+        return Err(Refusal::Damaged);
+    };
     let out = element_of(words, k, low.rank, low.head);
     take(bits, words, k, low);
-    Answer::Out(out)
+    Ok(Some(out))
 }
 
 fn push_laid(bits: &mut [u64], words: &mut [u32], k: Lay, e: Element) -> Answer
@@ -137,22 +132,23 @@ fn push_laid(bits: &mut [u64], words: &mut [u32], k: Lay, e: Element) -> Answer
     ensures { outcome result bits.new words.new ≡ pushed k bits.old words.old e }
 {
     if !is_shaped(bits, words, k) {
-        return Answer::Refused(Refusal::BadShape);
+        return Err(Refusal::BadShape);
     }
-    let rank = e.rank;
     if !may_come(k, e) {
-        return Answer::Refused(rank_or_tag(k, e));
+        return Err(rank_or_tag(k, e));
     }
     if !has_room(bits, words, k) {
-        return Answer::Refused(limit_or_damage(bits, words, k, Refusal::Full));
+        return Err(limit_or_damage(bits, words, k, Refusal::Full));
     }
     let held = held_count(words, k);
-    let to = find_room(words, k, held, rank.0);
-    if !(to.good & agrees(bits, k, rank.0, to.tail == 0)) {
-        return Answer::Refused(Refusal::Damaged);
+    let Some(to) = find_room(words, k, held, e.rank.0) else {
+        return Err(Refusal::Damaged);
+    };
+    if !agrees(bits, k, e.rank.0, to.tail == 0) {
+        return Err(Refusal::Damaged);
     }
     join(bits, words, k, e, to);
-    Answer::Done
+    Ok(None)
 }
 
 fn replace_laid(bits: &mut [u64], words: &mut [u32], k: Lay, e: Element) -> Answer
@@ -160,26 +156,26 @@ fn replace_laid(bits: &mut [u64], words: &mut [u32], k: Lay, e: Element) -> Answ
     ensures { outcome result bits.new words.new ≡ replaced k bits.old words.old e }
 {
     if !is_shaped(bits, words, k) {
-        return Answer::Refused(Refusal::BadShape);
+        return Err(Refusal::BadShape);
     }
-    let rank = e.rank;
     if !may_come(k, e) {
-        return Answer::Refused(rank_or_tag(k, e));
+        return Err(rank_or_tag(k, e));
     }
     if !has_some(bits, words, k) {
-        return Answer::Refused(limit_or_damage(bits, words, k, Refusal::Empty));
+        return Err(limit_or_damage(bits, words, k, Refusal::Empty));
     }
-    let low = find_lowest(bits, words, k);
-    if !low.good {
-        return Answer::Refused(Refusal::Damaged);
-    }
-    let room = room_after(words, k, low, rank.0);
+    let Some(low) = find_lowest(bits, words, k) else {
+        return Err(Refusal::Damaged);
+    };
+    let Some(room) = room_after(words, k, low, e.rank.0) else {
+        return Err(Refusal::Damaged);
+    };
     let held = held_count(words, k);
-    if !(room.good & agrees_after(bits, k, low, rank.0, room.tail == 0, held)) {
-        return Answer::Refused(Refusal::Damaged);
+    if !agrees_after(bits, k, low, e.rank.0, room.tail == 0, held) {
+        return Err(Refusal::Damaged);
     }
     let first = element_of(words, k, low.rank, low.head);
     swap(bits, words, k, low, e, room);
     show(bits, k, e, room);
-    Answer::Out(first)
+    Ok(Some(first))
 }

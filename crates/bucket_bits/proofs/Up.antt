@@ -1,10 +1,11 @@
 -- The way up from a rank, a storey a switch: writing, and reading what will stand after a pop.
-use Rattle.laws.specs.Prelude.{Bool, Bool·beq, List, [], ◌%◌, ◌&&◌, ◌+◌, ◌-◌, ◌/◌, ◌<◌, ◌^◌, ◌∙◌, ◌∷◌, ◌≡◌, ◌≤◌, and_assoc, and_left, and_right, and-unit, ap, arith, cond, eq-eqb, eqb, eqb-true, false, false≢true, length, length-set, lt-ltb, ltb, ltb-false, ltb-true, ne_eqb, not, pow-suc, refl, set, set-get_or, sub-one, subst, suc, sym, true, zero, ℕ, ℕ_discrete}
+use Rattle.std.specs.Prelude.{None, Some}
+use Rattle.laws.specs.Prelude.{Bool, Bool·beq, List, [], ◌%◌, ◌&&◌, ◌+◌, ◌-◌, ◌/◌, ◌<◌, ◌^◌, ◌∙◌, ◌∷◌, ◌≡◌, ◌≤◌, ap, arith, cond, eq-eqb, eqb, eqb-true, false, false≢true, length, length-set, ne_eqb, not, pow-suc, refl, set, set-get_or, sub-one, subst, suc, sym, true, zero, ℕ, ℕ_discrete}
 use Rattle.bitmap.specs.Bits.{bit_at, bit-lt, some-set}
 use Rattle.bucket_model.specs.Prelude.{Agrees, Storey, agree, bit_for, bit_no, bit_of, edit, storey, storeys_from, switched, tells_above, word, word_of, words_of}
 use Rattle.bucket_model.proofs.Laws.{Bits, Outside, Shape, bits-from, deeper, edit-off, other, past_all, same, shape-from}
 use Rattle.bucket_bits.specs.declared.Climb.{Climb}
-use Rattle.bucket_bits.specs.Climbs.{Tall, Switchable, Stays, Switching, Signalling, bits_left, Agreed, cleared, word_left, climbed, Climbable}
+use Rattle.bucket_bits.specs.Climbs.{Tall, Switchable, Stays, Switching, Signalling, bits_left, cleared, word_left, climbed, Climbable}
 use Rattle.bucket_bits.proofs.Numbers.{words_up, words-le}
 
 -- bits that agree with what is below them, from an empty bucket on, can be set
@@ -49,13 +50,7 @@ Rising on b0 b1 o D b more d i = (j : ℕ) × Rise on b0 b1 o D b more i d j
 number : (o e i j : ℕ) → i ≡ words_of (suc e) + j → (o + (i - 1) / 64 ≡ o + words_of e + j / 64) × ((i - 1) % 64 ≡ j % 64) × ((i - 1) / 64 ≡ words_of e + j / 64)
 number o e i j h = let u = words_up e in (omega arith, omega arith, omega arith)
 
-module _ (on : Bool) (b0 b1 : List ℕ) (o D : ℕ) (b : List ℕ) (more : Bool) (d i : ℕ) (long : o + words_of D ≤ length b0) (test : (more && ltb 0 d) ≡ true) where
-  e : more ≡ true
-  e = and_left more (ltb 0 d) test
-
-  some : 0 < d
-  some = ltb-true 0 d (and_right more (ltb 0 d) test)
-
+module _ (on : Bool) (b0 b1 : List ℕ) (o D : ℕ) (b : List ℕ) (more : Bool) (d i : ℕ) (long : o + words_of D ≤ length b0) (e : more ≡ true) (some : 0 < d) where
   -- the bit to be switched
   pub rising-turns : Rising on b0 b1 o D b more d i → (0 < i) × Switching b on true (o + (i - 1) / 64) ((i - 1) % 64)
   rising-turns z = go d z.0 some z.1
@@ -76,8 +71,8 @@ module _ (on : Bool) (b0 b1 : List ℕ) (o D : ℕ) (b : List ℕ) (more : Bool)
   pub rising_step : Rising on b0 b1 o D b more d i → (b' : List ℕ) (more' : Bool)
       → b' ≡ set b (o + (i - 1) / 64) (switched on (word b (o + (i - 1) / 64)) ((i - 1) % 64))
       → more' ≡ tells_above on (word b (o + (i - 1) / 64)) (switched on (word b (o + (i - 1) / 64)) ((i - 1) % 64))
-      → Rising on b0 b1 o D b' more' (d - 1) ((i - 1) / 64)
-  rising_step z b' more' p q = go d z.0 some z.1
+      → (d' : ℕ) → d' + 1 ≡ d → Rising on b0 b1 o D b' more' d' ((i - 1) / 64)
+  rising_step z b' more' p q d' s = let k : d - 1 ≡ d' = omega (arith, s) in subst (λ (d : ℕ). Rising on b0 b1 o D b' more' d ((i - 1) / 64)) k (go d z.0 some z.1)
     where
       go : (d j : ℕ) → 0 < d → Rise on b0 b1 o D b more i d j → Rising on b0 b1 o D b' more' (d - 1) ((i - 1) / 64)
       go zero j l z = absurd (omega arith)
@@ -103,13 +98,16 @@ module _ (on : Bool) (b0 b1 : List ℕ) (o D : ℕ) (b : List ℕ) (more : Bool)
           more-is : more' ≡ tells_above on (word b (o + words_of d + j / 64)) (switched on (word b (o + words_of d + j / 64)) (j % 64))
           more-is = rw (n.0, n.1) at q
 
-pub rising-end : (on : Bool) (b0 b1 : List ℕ) (o D : ℕ) (b : List ℕ) (more : Bool) (d i : ℕ) → Rising on b0 b1 o D b more d i → (more && ltb 0 d) ≡ false → b ≡ b1
-rising-end on b0 b1 o D b more d i z q = go d z.0 z.1 more refl q
+-- where no word tells the one above it any more, and at the top
+pub rising-still : (on : Bool) (b0 b1 : List ℕ) (o D : ℕ) (b : List ℕ) (more : Bool) (d i : ℕ) → Rising on b0 b1 o D b more d i → more ≡ false → b ≡ b1
+rising-still on b0 b1 o D b more d i z q = sym (ap (λ (t : Bool). cond t (edit on b (storeys_from o d) z.0) b) q) ∙ z.1.done
+
+pub rising-top : (on : Bool) (b0 b1 : List ℕ) (o D : ℕ) (b : List ℕ) (more : Bool) (d i : ℕ) → Rising on b0 b1 o D b more d i → d ≡ 0 → b ≡ b1
+rising-top on b0 b1 o D b more d i z q = go more refl ∙ ap (λ (d : ℕ). cond more (edit on b (storeys_from o d) z.0) b) (sym q) ∙ z.1.done
   where
-    go : (d j : ℕ) → Rise on b0 b1 o D b more i d j → (m : Bool) → more ≡ m → (more && ltb 0 d) ≡ false → b ≡ b1
-    go d j z false e q = sym (ap (λ (t : Bool). cond t (edit on b (storeys_from o d) j) b) e) ∙ z.done
-    go zero j z true e q = sym (ap (λ (t : Bool). cond t b b) e) ∙ z.done
-    go (suc d) j z true e q = let l = ltb-false 0 (suc d) (sym (ap (λ (t : Bool). t && ltb 0 (suc d)) e) ∙ q) in absurd (omega arith)
+    go : (m : Bool) → more ≡ m → b ≡ cond more b b
+    go true e = rw e refl
+    go false e = rw e refl
 
 -- what shall stand at last, by what stands now
 pub rising-goal : (on : Bool) (b0 b1 : List ℕ) (o D : ℕ) (b : List ℕ) (more : Bool) (d i : ℕ) → Rising on b0 b1 o D b more d i → cond more (edit on b (storeys_from o d) (i - words_of d)) b ≡ b1
@@ -159,7 +157,7 @@ module _ (on changes : Bool) (b : List ℕ) (o D tower r : ℕ) (tall : Tall b o
           → Rising on b (cond changes (edit on b (storeys_from o D) r) b) o D b' more (D - 1) ((tower + r - 1) / 64)
       go true t p q =
           let s : Rising on b (edit on b (storeys_from o D) r) o D b true D (tower + r) = (r, record { is = omega (arith, tall.words); deep = omega arith; within = r<; long = refl; todo = t; done = refl }) in
-          rising_step on b (edit on b (storeys_from o D) r) o D b true D (tower + r) tall.long (lt-ltb 0 D (omega (arith, tall.some))) s b' more p q
+          rising_step on b (edit on b (storeys_from o D) r) o D b true D (tower + r) tall.long refl tall.some s b' more p q (D - 1) (omega (arith, tall.some))
       go false t p q = (
         r / 64,
         record {
@@ -198,15 +196,15 @@ pub record Climbs (b : List ℕ) (o D : ℕ) (clears : Bool) (gone : ℕ) (empty
   pub alike : SameOn v b (storeys_from o d)
   pub todo : c.clears ≡ true → Switchable false v (storeys_from o d) h
   pub done : bits_left b o D clears gone ≡ cond c.clears (edit false v (storeys_from o d) h) v
-  pub agreed : agree (bits_left b o D clears gone) (storeys_from o D) own empty ≡ (c.agrees && agree (bits_left b o D clears gone) (storeys_from o d) j c.empty)
+  pub agreed : agree (bits_left b o D clears gone) (storeys_from o D) own empty ≡ agree (bits_left b o D clears gone) (storeys_from o d) j c.empty
   pub topmost : d < D → d ≡ 0 → c.top ≡ word (bits_left b o D clears gone) o
 
 abbrev pub Climbing : List ℕ → ℕ → ℕ → Bool → ℕ → Bool → ℕ → Climb → ℕ → ℕ → ℕ → Type 0
 Climbing b o D clears gone empty own c d g i = (h : ℕ) × (j : ℕ) × (v : List ℕ) × Climbs b o D clears gone empty own c g i d h j v
 
-pub climbing-start : (b : List ℕ) (o D tower : ℕ) (clears : Bool) (gone : ℕ) (empty : Bool) (own : ℕ) → tower ≡ words_of D → gone < 64 ^ D → own < 64 ^ D → (clears ≡ true → Switchable false b (storeys_from o D) gone)
-    → Climbing b o D clears gone empty own (record { clears = clears; empty = empty; agrees = true; top = 0 }) D (tower + gone) (tower + own)
-climbing-start b o D tower clears gone empty own e hg hi t = (
+pub climbing-start : (b : List ℕ) (o D tower : ℕ) (clears : Bool) (gone : ℕ) (empty : Bool) (own d : ℕ) → d ≡ D → tower ≡ words_of D → gone < 64 ^ D → own < 64 ^ D → (clears ≡ true → Switchable false b (storeys_from o D) gone)
+    → Climbing b o D clears gone empty own (record { clears = clears; empty = empty; top = 0 }) d (tower + gone) (tower + own)
+climbing-start b o D tower clears gone empty own d q e hg hi t = subst (λ (d : ℕ). Climbing b o D clears gone empty own (record { clears = clears; empty = empty; top = 0 }) d (tower + gone) (tower + own)) (sym q) (
   gone,
   own,
   b,
@@ -304,55 +302,88 @@ module _ (b : List ℕ) (o D : ℕ) (clears : Bool) (gone : ℕ) (empty : Bool) 
             },
           )
 
-  pub climbing-step : Climbing b o D clears gone empty own c d g i → Climbing b o D clears gone empty own (climbed b o c (g - 1) (i - 1)) (d - 1) ((g - 1) / 64) ((i - 1) / 64)
+  -- whether the rank's bit there is that of an empty bucket, or word, though what is below it is not, or the other way round
+  abbrev torn : Bool
+  torn = Bool·beq c.empty (eqb (bit_at (word_left b o c.clears (g - 1) (i - 1)) ((i - 1) % 64)) 1)
+
+  -- the storey read
+  abbrev read : Climb
+  read =
+      record {
+        clears = c.clears && eqb (cleared (word b (o + (g - 1) / 64)) c.clears ((g - 1) % 64)) 0;
+        empty = eqb (word_left b o c.clears (g - 1) (i - 1)) 0;
+        top = word_left b o c.clears (g - 1) (i - 1);
+      }
+
+  module _ (e h j : ℕ) (v : List ℕ) (z : Climbs b o D clears gone empty own c g i (suc e) h j v) where
+    m : (o + (g - 1) / 64 ≡ o + words_of e + h / 64) × ((g - 1) % 64 ≡ h % 64) × ((g - 1) / 64 ≡ words_of e + h / 64)
+    m = number o e g h z.g-is
+
+    n : (o + (i - 1) / 64 ≡ o + words_of e + j / 64) × ((i - 1) % 64 ≡ j % 64) × ((i - 1) / 64 ≡ words_of e + j / 64)
+    n = number o e i j z.i-is
+
+    inside : o + words_of e + h / 64 < length v
+    inside = omega (arith, z.h<, z.long, long, pow-suc 64 e, words-le (suc e) D z.deep)
+
+    w-is : word B (o + words_of e + j / 64) ≡ word_left b o c.clears (g - 1) (i - 1)
+    w-is = rw (m.0, m.1, m.2, n.0, n.2) (word-is b v o e h j B inside z.h< z.j< z.alike c.clears z.done)
+
+    agreed-by : (t : Bool) → torn ≡ t → agree B (storeys_from o D) own empty ≡ (not t && agree B (storeys_from o e) (j / 64) (eqb (word_left b o c.clears (g - 1) (i - 1)) 0))
+    agreed-by t q =
+        let bit : Bool·beq c.empty (bit_of B (storey o e) j) ≡ t = rw (w-is, ← n.1) q in
+        z.agreed ∙ rw (bit, w-is) refl
+
+    step-read : torn ≡ false → Climbing b o D clears gone empty own read e ((g - 1) / 64) ((i - 1) / 64)
+    step-read q = (
+      h / 64,
+      j / 64,
+      written b v o e h j B inside z.h< z.j< z.alike c.clears,
+      record {
+        g-is = m.2;
+        i-is = n.2;
+        deep = omega (arith, z.deep);
+        h< = omega (arith, z.h<, pow-suc 64 e);
+        j< = omega (arith, z.j<, pow-suc 64 e);
+        long = long-is b v o e h j B inside z.h< z.j< z.alike c.clears ∙ z.long;
+        alike = alike_is b v o e h j B inside z.h< z.j< z.alike c.clears;
+        todo = rw (m.0, m.1) (todo-is b v o e h j B inside z.h< z.j< z.alike c.clears z.todo);
+        done = rw (m.0, m.1) (done-is b v o e h j B inside z.h< z.j< z.alike c.clears z.done);
+        agreed = agreed-by false q;
+        topmost = λ d< n0. sym w-is ∙ ap (word B) (omega (arith, z.j<, ap words_of n0, ap (λ (d : ℕ). 64 ^ suc d) n0));
+      },
+    )
+
+  pub climbing-step : (c' : Climb) → climbed b o c (g - 1) (i - 1) ≡ Some c' → (d' : ℕ) → d' + 1 ≡ d → Climbing b o D clears gone empty own c d g i → Climbing b o D clears gone empty own c' d' ((g - 1) / 64) ((i - 1) / 64)
   unfolding climbed
-  climbing-step z = go d z.0 z.1 z.2 some z.3
+  climbing-step c' p d' s z = let e : d - 1 ≡ d' = omega (arith, s) in subst (λ (d : ℕ). Climbing b o D clears gone empty own c' d ((g - 1) / 64) ((i - 1) / 64)) e (by torn refl p)
     where
-      go : (d h j : ℕ) (v : List ℕ) → 0 < d → Climbs b o D clears gone empty own c g i d h j v → Climbing b o D clears gone empty own (climbed b o c (g - 1) (i - 1)) (d - 1) ((g - 1) / 64) ((i - 1) / 64)
-      go zero h j v l z = absurd (omega arith)
-      go (suc d) h j v l z = subst (λ (d : ℕ). Climbing b o D clears gone empty own (climbed b o c (g - 1) (i - 1)) d ((g - 1) / 64) ((i - 1) / 64)) (sym (sub-one (suc d))) (
-        h / 64,
-        j / 64,
-        written b v o d h j B inside z.h< z.j< z.alike c.clears,
-        record {
-          g-is = m.2;
-          i-is = n.2;
-          deep = omega (arith, z.deep);
-          h< = omega (arith, z.h<, pow-suc 64 d);
-          j< = omega (arith, z.j<, pow-suc 64 d);
-          long = long-is b v o d h j B inside z.h< z.j< z.alike c.clears ∙ z.long;
-          alike = alike_is b v o d h j B inside z.h< z.j< z.alike c.clears;
-          todo = rw (m.0, m.1) (todo-is b v o d h j B inside z.h< z.j< z.alike c.clears z.todo);
-          done = rw (m.0, m.1) (done-is b v o d h j B inside z.h< z.j< z.alike c.clears z.done);
-          agreed = z.agreed ∙ rw (n.1, ← w-is) (sym (and_assoc c.agrees (not (Bool·beq c.empty (bit_of B (storey o d) j))) (agree B (storeys_from o d) (j / 64) (eqb (word_of B (storey o d) j) 0))));
-          topmost = λ d< e. sym w-is ∙ ap (word B) (omega (arith, z.j<, ap words_of e, ap (λ (d : ℕ). 64 ^ suc d) e));
-        },
-      )
-        where
-          m : (o + (g - 1) / 64 ≡ o + words_of d + h / 64) × ((g - 1) % 64 ≡ h % 64) × ((g - 1) / 64 ≡ words_of d + h / 64)
-          m = number o d g h z.g-is
+      go : (d h j : ℕ) (v : List ℕ) → 0 < d → Climbs b o D clears gone empty own c g i d h j v → torn ≡ false → Climbing b o D clears gone empty own read (d - 1) ((g - 1) / 64) ((i - 1) / 64)
+      go zero h j v l z e = absurd (omega arith)
+      go (suc d) h j v l z e = subst (λ (d : ℕ). Climbing b o D clears gone empty own read d ((g - 1) / 64) ((i - 1) / 64)) (sym (sub-one (suc d))) (step-read d h j v z e)
 
-          n : (o + (i - 1) / 64 ≡ o + words_of d + j / 64) × ((i - 1) % 64 ≡ j % 64) × ((i - 1) / 64 ≡ words_of d + j / 64)
-          n = number o d i j z.i-is
+      by : (t : Bool) → torn ≡ t → cond t None (Some read) ≡ Some c' → Climbing b o D clears gone empty own c' (d - 1) ((g - 1) / 64) ((i - 1) / 64)
+      by true e p = cc
+      by false e p = let q : read ≡ c' = cc in subst (λ (x : Climb). Climbing b o D clears gone empty own x (d - 1) ((g - 1) / 64) ((i - 1) / 64)) q (go d z.0 z.1 z.2 some z.3 e)
 
-          inside : o + words_of d + h / 64 < length v
-          inside = omega (arith, z.h<, z.long, long, pow-suc 64 d, words-le (suc d) D z.deep)
+  pub climbing-shut : climbed b o c (g - 1) (i - 1) ≡ None → Climbing b o D clears gone empty own c d g i → agree B (storeys_from o D) own empty ≡ false
+  unfolding climbed
+  climbing-shut p z = by torn refl p
+    where
+      go : (d h j : ℕ) (v : List ℕ) → 0 < d → Climbs b o D clears gone empty own c g i d h j v → torn ≡ true → agree B (storeys_from o D) own empty ≡ false
+      go zero h j v l z e = absurd (omega arith)
+      go (suc d) h j v l z e = agreed-by d h j v z true e
 
-          w-is : word B (o + words_of d + j / 64) ≡ word_left b o c.clears (g - 1) (i - 1)
-          w-is = rw (m.0, m.1, m.2, n.0, n.2) (word-is b v o d h j B inside z.h< z.j< z.alike c.clears z.done)
+      by : (t : Bool) → torn ≡ t → cond t None (Some read) ≡ None → agree B (storeys_from o D) own empty ≡ false
+      by true e p = go d z.0 z.1 z.2 some z.3 e
+      by false e p = cc
 
-pub climbing-end : (b : List ℕ) (o D : ℕ) (clears : Bool) (gone : ℕ) (empty : Bool) (own : ℕ) (c : Climb) (d g i : ℕ) → 1 ≤ D → (c.agrees && ltb 0 d) ≡ false → Climbing b o D clears gone empty own c d g i
-    → Agreed b o D clears gone empty own c.agrees c.top
-climbing-end b o D clears gone empty own c d g i D> e z = go d z.0 z.1 z.2 c.agrees refl e z.3
+pub climbing-end : (b : List ℕ) (o D : ℕ) (clears : Bool) (gone : ℕ) (empty : Bool) (own : ℕ) (c : Climb) (d g i : ℕ) → 1 ≤ D → d ≡ 0 → Climbing b o D clears gone empty own c d g i
+    → (agree (bits_left b o D clears gone) (storeys_from o D) own empty ≡ true) × (c.top ≡ word (bits_left b o D clears gone) o)
+climbing-end b o D clears gone empty own c d g i D> e z = go d z.0 z.1 z.2 e z.3
   where
-    go : (d h j : ℕ) (v : List ℕ) (t : Bool) → c.agrees ≡ t → (c.agrees && ltb 0 d) ≡ false → Climbs b o D clears gone empty own c g i d h j v → Agreed b o D clears gone empty own c.agrees c.top
-    go d h j v false a e z =
-        record {
-          agreed = a ∙ sym (z.agreed ∙ ap (λ (x : Bool). x && agree (bits_left b o D clears gone) (storeys_from o d) j c.empty) a);
-          topmost = λ y. absurd (false≢true (sym a ∙ y));
-        }
-    go zero h j v true a e z = record { agreed = sym (z.agreed ∙ and-unit c.agrees); topmost = λ y. z.topmost D> refl }
-    go (suc d) h j v true a e z = let l = ltb-false 0 (suc d) (sym (ap (λ (t : Bool). t && ltb 0 (suc d)) a) ∙ e) in absurd (omega arith)
+    go : (d h j : ℕ) (v : List ℕ) → d ≡ 0 → Climbs b o D clears gone empty own c g i d h j v → (agree (bits_left b o D clears gone) (storeys_from o D) own empty ≡ true) × (c.top ≡ word (bits_left b o D clears gone) o)
+    go zero h j v e z = (z.agreed, z.topmost D> refl)
+    go (suc d) h j v e z = absurd (omega arith)
 
 -- ---- one storey as the code does it
 
@@ -366,20 +397,11 @@ pub switch-off : (b : List ℕ) (on changes : Bool) (at k x : ℕ) → on ≡ fa
 switch-off b on true at k x e s p = rw (e, p) (refl, refl)
 switch-off b on false at k x e s p = (ap (set b at) p ∙ set-get_or b at 0, ap (λ (y : ℕ). eqb y 0) p ∙ ne_eqb (word b at) 0 (some-set (word b at) k (s refl)))
 
-pub bit-clear : (on : Bool) (x : ℕ) → on ≡ true → x ≡ bit_for (not on) → x ≡ 0
-bit-clear on x e p = p ∙ ap (λ (t : Bool). bit_for (not t)) e
+module _ (b : List ℕ) (o : ℕ) (c : Climb) (gone own left w : ℕ) (bit : Bool) (p : left ≡ cleared (word b (o + gone / 64)) c.clears (gone % 64)) (q : w ≡ cond (eqb (gone / 64) (own / 64)) left (word b (o + own / 64))) (r : bit ≡ eqb (bit_at w (own % 64)) 1) where
+  pub climbed-none : Bool·beq c.empty bit ≡ true → None ≡ climbed b o c gone own
+  unfolding climbed
+  climbed-none e = let t : Bool·beq c.empty (eqb (bit_at w (own % 64)) 1) ≡ true = rw (← r) e in rw (← p, ← q, t) refl
 
-pub bit-set : (on : Bool) (x : ℕ) → on ≡ false → x ≡ bit_for (not on) → x ≡ 1
-bit-set on x e p = p ∙ ap (λ (t : Bool). bit_for (not t)) e
-
-pub word-known : (x y : ℕ) (t : Bool) → t ≡ true → x ≡ cond t x y
-word-known x y t e = rw e refl
-
-pub word_read : (x y : ℕ) (t : Bool) → t ≡ false → y ≡ cond t x y
-word_read x y t e = rw e refl
-
-pub climbed-is : (b : List ℕ) (o : ℕ) (c : Climb) (gone own left w : ℕ) (bit : Bool)
-    → left ≡ cleared (word b (o + gone / 64)) c.clears (gone % 64) → w ≡ cond (eqb (gone / 64) (own / 64)) left (word b (o + own / 64)) → bit ≡ eqb (bit_at w (own % 64)) 1
-    → ◌≡◌ {A = Climb} (record { clears = c.clears && eqb left 0; empty = eqb w 0; agrees = c.agrees && not (Bool·beq c.empty bit); top = w }) (climbed b o c gone own)
-unfolding climbed
-climbed-is b o c gone own left w bit p q r = rw (r, q, p) refl
+  pub climbed-some : Bool·beq c.empty bit ≡ false → Some (record { clears = c.clears && eqb left 0; empty = eqb w 0; top = w }) ≡ climbed b o c gone own
+  unfolding climbed
+  climbed-some e = let t : Bool·beq c.empty (eqb (bit_at w (own % 64)) 1) ≡ false = rw (← r) e in rw (← p, ← q, t) refl

@@ -1,5 +1,6 @@
 -- What the functions on the bits ask of their callers, and what they promise. These are definitions.
 use Rattle.std.specs.Prelude.{◌%◌, ◌&&◌, ◌+◌, ◌/◌, ◌<◌, ◌^◌, ◌∷◌, ◌≡◌, ◌≤◌}
+use Rattle.std.specs.Prelude.{None, Option, Some}
 use Rattle.laws.specs.Prelude.{Bool, Bool·beq, List, [], cond, eqb, false, length, not, true, ℕ}
 use Rattle.bitmap.specs.Bits.{bit_at}
 use Rattle.bucket_model.specs.Prelude.{Storey, agree, bit_for, bit_no, edit, find, opens, storeys_from, switched, tells_above, word, word_of, words_of}
@@ -32,22 +33,26 @@ pub record Switching (b : List ℕ) (on changes : Bool) (at k : ℕ) : Type 0 wh
   pub bit : changes ≡ true → bit_at (word b at) k ≡ bit_for (not on)
   pub stays : changes ≡ false → bit_at (word b at) k ≡ 1
 
--- the way down: whether it is open, and where it leads; where it is open the rank's bits can be cleared
-pub record Leads (b : List ℕ) (o d : ℕ) (open? : Bool) (rank : ℕ) : Type 0 where
-  pub way : open? ≡ opens b (storeys_from o d)
-  pub to : open? ≡ true → rank ≡ find b (storeys_from o d)
-  pub within : open? ≡ true → rank < 64 ^ d
-  pub set : open? ≡ true → Switchable false b (storeys_from o d) rank
-  pub none : open? ≡ false → rank ≡ 0
+-- the way down where it is open: where it leads, and the rank's bits can be cleared
+pub record LeadsTo (b : List ℕ) (o d : ℕ) (rank : ℕ) : Type 0 where
+  pub way : opens b (storeys_from o d) ≡ true
+  pub to : rank ≡ find b (storeys_from o d)
+  pub within : rank < 64 ^ d
+  pub set : Switchable false b (storeys_from o d) rank
+
+-- .. and nowhere where it is not
+abbrev pub Leads : List ℕ → ℕ → ℕ → Option ℕ → Type 0
+Leads b o d None = opens b (storeys_from o d) ≡ false
+Leads b o d (Some rank) = LeadsTo b o d rank
 
 -- the bits that a pop leaves: those of its rank cleared, if it clears them
 abbrev pub bits_left : List ℕ → ℕ → ℕ → Bool → ℕ → List ℕ
 bits_left b o d clears gone = cond clears (edit false b (storeys_from o d) gone) b
 
 -- what these bits say of a rank, and their top word where they agree
-pub record Agreed (b : List ℕ) (o d : ℕ) (clears : Bool) (gone : ℕ) (empty : Bool) (own : ℕ) (agrees : Bool) (top : ℕ) : Type 0 where
-  pub agreed : agrees ≡ agree (bits_left b o d clears gone) (storeys_from o d) own empty
-  pub topmost : agrees ≡ true → top ≡ word (bits_left b o d clears gone) o
+abbrev pub Agreed : List ℕ → ℕ → ℕ → Bool → ℕ → Bool → ℕ → Option ℕ → Type 0
+Agreed b o d clears gone empty own None = agree (bits_left b o d clears gone) (storeys_from o d) own empty ≡ false
+Agreed b o d clears gone empty own (Some top) = (agree (bits_left b o d clears gone) (storeys_from o d) own empty ≡ true) × (top ≡ word (bits_left b o d clears gone) o)
 
 -- ---- one storey on the way up
 
@@ -58,15 +63,16 @@ cleared w clears k = cond clears (switched false w k) w
 abbrev pub word_left : List ℕ → ℕ → Bool → ℕ → ℕ → ℕ
 word_left b o clears gone own = cond (eqb (gone / 64) (own / 64)) (cleared (word b (o + gone / 64)) clears (gone % 64)) (word b (o + own / 64))
 
-unfoldable pub climbed : List ℕ → ℕ → Climb → ℕ → ℕ → Climb
+-- .. and what the pop clears above, if the rank's bit agrees with what is below it
+unfoldable pub climbed : List ℕ → ℕ → Climb → ℕ → ℕ → Option Climb
 climbed b o c gone own =
     let w = word_left b o c.clears gone own in
-    record {
+    cond (Bool·beq c.empty (eqb (bit_at w (own % 64)) 1)) None
+    (Some (record {
       clears = c.clears && eqb (cleared (word b (o + gone / 64)) c.clears (gone % 64)) 0;
       empty = eqb w 0;
-      agrees = c.agrees && not (Bool·beq c.empty (eqb (bit_at w (own % 64)) 1));
       top = w;
-    }
+    }))
 
 pub record Climbable (b : List ℕ) (o : ℕ) (clears : Bool) (gone own : ℕ) : Type 0 where
   pub gone< : o + gone / 64 < length b

@@ -5,61 +5,43 @@
 // (i - 1) / 64, however many storeys there are.
 #![tactic(auto)]
 
-ghost use Rattle.std.specs.Prelude.{◌≡◌, true, false, cond, ◌&&◌, ◌+◌, ◌≤◌, ◌<◌, ◌^◌, length, set};
+ghost use Rattle.std.specs.Prelude.{◌≡◌, true, false, cond, ◌&&◌, ◌+◌, ◌≤◌, ◌<◌, ◌^◌, length, set, HoldsAt};
 ghost use Rattle.bucket_model.specs.Layout.{word};
 ghost use Rattle.bucket_model.specs.Storeys.{storeys_from, switched, tells_above, edit};
 ghost use Rattle.bucket_model.specs.Calls.{fill};
 ghost use Rattle.bucket_bits.specs.Climbs.{Tall, Switchable, Switching, Signalling, Leads, Agreed, climbed, Climbable};
 
-// The lowest rank: whether no word on the way down to it is 0, and the rank (0 where one is).
-#[derive(Clone, Copy)]
-pub struct LowestRank {
-    pub open: bool,
-    pub rank: u32,
-}
-
 // The way up from a rank, on the bits as after a pop: whether the pop clears a bit in the next storey; whether what is below
-// the next bit is empty; whether all bits so far agreed with what is below them; and the last word read.
+// the next bit is empty; and the last word read.
 #[derive(Clone, Copy)]
 pub struct Climb {
     pub clears: bool,
     pub empty: bool,
-    pub agrees: bool,
     pub top: u64,
 }
 
 // ---- down
 
-// The lowest rank: from the top word down, the lowest set bit names the next word.
-pub fn lowest_rank(bits: &[u64], base: usize, storeys: usize, tower: usize) -> LowestRank
+// The lowest rank: from the top word down, the lowest set bit names the next word. None where a word on the way is 0.
+pub fn lowest_rank(bits: &[u64], base: usize, storeys: usize, tower: usize) -> Option<u32>
     requires { Tall bits.now base storeys tower }
-    ensures { Leads bits.now base storeys result.open result.rank }
+    ensures { Leads bits.now base storeys result }
 {
-    let mut open = true;
-    let mut d = 0;
     let mut i = 0;
-    while open & (d < storeys) {
+    for _ in 0..storeys {
         let word = bits[base + i];
-        open = word != 0;
+        if word == 0 {
+            return None;
+        }
         i = 64 * i + 1 + bitmap::lowest(word);
-        d += 1;
     }
-    if !open {
-        return LowestRank {
-            open: false,
-            rank: 0,
-        };
-    }
-    LowestRank {
-        open: true,
-        rank: (i - tower) as u32,
-    }
+    Some((i - tower) as u32)
 }
 
 // ---- up, writing
 
 // Sets or clears one bit, where it changes. Answers whether its word was 0, or is 0 now, so that the storey above hears of it;
-// a bit that does not change is set, so that its word is not 0.
+// a bit that does not change is set, so that its word is not 0. No closures for `on`: `edit` and `switched` go by it.
 fn switch(bits: &mut [u64], on: bool, changes: bool, at: usize, k: usize) -> bool
     requires { Switching bits.old on changes at k }
     ensures { (bits.new ≡ cond changes (set bits.old at (switched on (word bits.old at) k)) bits.old) × (result ≡ (changes && tells_above on (word bits.old at) (switched on (word bits.old at) k))) }
@@ -75,7 +57,8 @@ fn switch(bits: &mut [u64], on: bool, changes: bool, at: usize, k: usize) -> boo
 }
 
 // The bits of a rank, where its bucket was empty and no longer is, or is empty now and was not. The lowest storey's word is
-// written in any case: whether a bucket changes so can often not be foretold, whether a whole word does mostly can.
+// written in any case: whether a bucket changes so can often not be foretold, whether a whole word does mostly can. Inline: see `bucket_step::swap`.
+#[inline(always)]
 pub fn signal(
     bits: &mut [u64],
     on: bool,
@@ -92,13 +75,14 @@ pub fn signal(
 {
     let low = tower + rank as usize - 1;
     let mut more = switch(bits, on, changes, base + low / 64, low % 64);
-    let mut d = storeys - 1;
     let mut i = low / 64;
-    while more & (0 < d) {
+    for _ in 1..storeys {
+        if !more {
+            return;
+        }
         let bit = i - 1;
         more = switch(bits, on, true, base + bit / 64, bit % 64);
         i = bit / 64;
-        d -= 1;
     }
 }
 
@@ -107,44 +91,41 @@ pub fn wipe(bits: &mut [u64], end: usize)
     requires { end ≤ length bits.old }
     ensures { bits.new ≡ fill (λ j. 0) end bits.old }
 {
-    let mut j = 0;
-    while j < end {
-        bits[j] = 0;
-        j += 1;
-    }
+    bits[..end].fill(0);
 }
 
 // ---- up, reading what will stand after a pop that is not done yet
 
 // The word at place `at`, or the one that is known where it is the same.
-fn word_or(bits: &[u64], at: usize, same: bool, known: u64) -> u64
-    requires { at < length bits.now }
-    ensures { result ≡ cond same known (word bits.now at) }
+pub fn word_or<T: Copy>(words: &[T], at: usize, same: bool, known: T) -> T
+    requires { at < length words.now }
+    ensures { HoldsAt (λ v. result ≡ cond same known v) words.now at }
 {
     if same {
         return known;
     }
-    bits[at]
+    words[at]
 }
 
-// One storey: the pop's bit there is number gone, the rank's is number own.
-fn climb_one(bits: &[u64], base: usize, c: Climb, gone: usize, own: usize) -> Climb
+// One storey: the pop's bit there is number gone, the rank's is number own. None where that does not agree with what is below it.
+fn climb_one(bits: &[u64], base: usize, c: Climb, gone: usize, own: usize) -> Option<Climb>
     requires { Climbable bits.now base c.clears gone own }
     ensures { result ≡ climbed bits.now base c gone own }
 {
     let left = bitmap::without(bits[base + gone / 64], gone % 64, c.clears);
     let word = word_or(bits, base + own / 64, gone / 64 == own / 64, left);
-    let bit = bitmap::bit(word, own % 64);
-    Climb {
+    if c.empty == bitmap::bit(word, own % 64) {
+        return None;
+    }
+    Some(Climb {
         clears: c.clears & (left == 0),
         empty: word == 0,
-        agrees: c.agrees & (c.empty != bit),
         top: word,
-    }
+    })
 }
 
 // Whether the bits of rank own agree with what is below them, a bucket that is empty or not and then the words, once the bits
-// of rank gone are cleared where its pop clears them; and the top word then, where all agree.
+// of rank gone are cleared where its pop clears them: the top word then, where all agree.
 pub fn agreement(
     bits: &[u64],
     base: usize,
@@ -154,27 +135,24 @@ pub fn agreement(
     gone: u32,
     empty: bool,
     own: u32,
-) -> Climb
+) -> Option<u64>
     requires tall { Tall bits.now base storeys tower }
     requires gone_in { gone < 64 ^ storeys }
     requires own_in { own < 64 ^ storeys }
     requires switchable { (clears ≡ true → Switchable false bits.now (storeys_from base storeys) gone) }
-    ensures { Agreed bits.now base storeys clears gone empty own result.agrees result.top }
+    ensures { Agreed bits.now base storeys clears gone empty own result }
 {
     let mut c = Climb {
         clears,
         empty,
-        agrees: true,
         top: 0,
     };
-    let mut d = storeys;
     let mut g = tower + gone as usize;
     let mut i = tower + own as usize;
-    while c.agrees & (0 < d) {
-        c = climb_one(bits, base, c, g - 1, i - 1);
+    for _ in 0..storeys {
+        c = climb_one(bits, base, c, g - 1, i - 1)?;
         g = (g - 1) / 64;
         i = (i - 1) / 64;
-        d -= 1;
     }
-    c
+    Some(c.top)
 }

@@ -1,5 +1,5 @@
 -- Case 8 of the paper, computed from the definitions at two storeys, and its twin at three: "Bucket, N = 3: push 7/1, 7/2, 4095/3; push 0/4 refused 5; 4096/4 refused 4; pops 7/1, 7/2, 4095/3, then 6".
-use Rattle.laws.specs.Prelude.{Answer, Done, List, Request, [], ◌∙◌, ◌∷◌, ◌≡◌, ◌≤◌, ap, arith, length-replicate, map, refl, replicate, untagged, ℕ}
+use Rattle.laws.specs.Prelude.{Answer, List, Request, [], ◌∙◌, ◌∷◌, ◌≡◌, ◌≤◌, ap, arith, length-replicate, map, refl, replicate, untagged, ℕ, Ok, None}
 use lib.Count.{count_trailing_zeros}
 use lib.Dec.{lit≤}
 use Rattle.bitmap.specs.Bits.{bit_at}
@@ -16,7 +16,7 @@ case8-holds = refl
 
 abbrev pub answer_of : Said → Answer
 answer_of (answered a) = a
-answer_of (counted c) = Done
+answer_of (counted c) = Ok None
 
 one_by_one : (k : Lay) (qs : List Request) (s : Store) → answers_from k qs s ≡ map answer_of (says k (map ask qs) s)
 unfolding answers_from says called

@@ -1,6 +1,6 @@
 -- Case 8 of the paper as a list of requests and the answers that it wants. These are definitions.
 use Rattle.std.specs.Prelude.{◌∷◌}
-use Rattle.laws.specs.Prelude.{Answer, BadRank, Done, Empty, Full, List, Out, Pop, Push, Refused, Request, [], element}
+use Rattle.laws.specs.Prelude.{Answer, BadRank, Empty, Full, List, Pop, Push, Request, [], element, Ok, None, Some, Err}
 
 -- "Bucket, N = 3: push 7/1, 7/2, 4095/3; push 0/4 refused 5; 4096/4 refused 4; pops 7/1, 7/2, 4095/3, then 6"
 abbrev pub case8 : List Request
@@ -10,8 +10,8 @@ case8 =
 
 abbrev pub case8_answers : List Answer
 case8_answers =
-    Done ∷ Done ∷ Done ∷ Refused Full ∷ Refused BadRank
-    ∷ Out (element 7 1 0) ∷ Out (element 7 2 0) ∷ Out (element 4095 3 0) ∷ Refused Empty ∷ []
+    (Ok None) ∷ (Ok None) ∷ (Ok None) ∷ Err Full ∷ Err BadRank
+    ∷ Ok (Some (element 7 1 0)) ∷ Ok (Some (element 7 2 0)) ∷ Ok (Some (element 4095 3 0)) ∷ Err Empty ∷ []
 
 -- .. and at three storeys, where 262,143 is the last rank (02 [7])
 abbrev pub case8_three : List Request
@@ -21,5 +21,5 @@ case8_three =
 
 abbrev pub case8_three_answers : List Answer
 case8_three_answers =
-    Done ∷ Done ∷ Done ∷ Refused Full ∷ Refused BadRank
-    ∷ Out (element 7 1 0) ∷ Out (element 7 2 0) ∷ Out (element 262143 3 0) ∷ Refused Empty ∷ []
+    (Ok None) ∷ (Ok None) ∷ (Ok None) ∷ Err Full ∷ Err BadRank
+    ∷ Ok (Some (element 7 1 0)) ∷ Ok (Some (element 7 2 0)) ∷ Ok (Some (element 262143 3 0)) ∷ Err Empty ∷ []

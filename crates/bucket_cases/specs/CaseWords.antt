@@ -1,6 +1,6 @@
 -- The words that a few calls leave, to read off. These are definitions.
 use Rattle.std.specs.Prelude.{◌*◌, ◌++◌, ◌+◌, ◌∷◌}
-use Rattle.laws.specs.Prelude.{Answer, Done, List, Out, Pop, Push, Replace, Request, [], element, map, replicate, ℕ}
+use Rattle.laws.specs.Prelude.{Answer, List, Pop, Push, Replace, Request, [], element, map, replicate, ℕ, Ok, None, Some}
 use Rattle.bucket_model.specs.Prelude.{Store, after, ask, queue, start}
 
 -- what requests leave of slices of nines, each one word longer than it need be, that were cleared for n nodes
@@ -35,5 +35,5 @@ length_case = replace_case ++ (Pop ∷ Pop ∷ [])
 
 abbrev pub length_case_answers : List Answer
 length_case_answers =
-    Done ∷ Done ∷ Done ∷ Out (element 7 1 64) ∷ Out (element 7 2 1500) ∷ Out (element 7 3 40)
-    ∷ Out (element 3 6 4294967295) ∷ Out (element 70 5 9000) ∷ []
+    (Ok None) ∷ (Ok None) ∷ (Ok None) ∷ Ok (Some (element 7 1 64)) ∷ Ok (Some (element 7 2 1500)) ∷ Ok (Some (element 7 3 40))
+    ∷ Ok (Some (element 3 6 4294967295)) ∷ Ok (Some (element 70 5 9000)) ∷ []

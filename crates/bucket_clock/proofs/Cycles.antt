@@ -1,5 +1,5 @@
 -- What the calls have tested and done is what the rules test and do. Each law takes what a function has found as equations.
-use Rattle.laws.specs.Prelude.{Answer, BadRank, BadShape, Bool, Count, Damaged, Done, Element, Empty, Full, Held, Idle, List, NoTag, Pop, Push, Refused, Replace, Request, Unknown, ◌&&◌, ◌*◌, ◌+◌, ◌-◌, ◌<◌, ◌∙◌, ◌≡◌, ◌≤◌, and_left, and_right, ap, arith, asks, cond, eq-eqb, eqb, false, false≢true, le-leb, le-ltb, leb, leb-true, length, lt-leb, lt-ltb, ltb, ltb-false, ltb-true, means-and, means-leb, ne_eqb, not, not-false, not-true, pred, refl, set, set-get_or, sub-one, subst, suc, sym, true, untagged, ℕ}
+use Rattle.laws.specs.Prelude.{Answer, BadRank, BadShape, Bool, Damaged, Element, Empty, Full, Idle, List, NoTag, Pop, Push, Replace, Request, ◌&&◌, ◌*◌, ◌+◌, ◌-◌, ◌<◌, ◌∙◌, ◌≡◌, ◌≤◌, and_left, and_right, ap, arith, asks, cond, eq-eqb, eqb, false, false≢true, le-leb, le-ltb, leb, leb-true, length, lt-leb, lt-ltb, ltb, ltb-false, ltb-true, means-and, means-leb, ne_eqb, not, not-false, not-true, pred, refl, set, set-get_or, sub-one, subst, suc, sym, true, untagged, ℕ, Result, Refusal, Ok, Err, None}
 use lib.Dec.{lit≤}
 use Rattle.bucket_bits.proofs.Numbers.{words-le}
 use Rattle.bucket_model.proofs.Laws.{laid_of, shape-means}
@@ -9,8 +9,8 @@ use Rattle.bucket_node.specs.Places.{Fits}
 use Rattle.bucket_step.proofs.Depths.{deep_of, undeep}
 use Rattle.promise.specs.Prelude.{Ruling, Step, ruling, step}
 use Rattle.bucket_clock_model.specs.Clock.{held_after}
-use Rattle.bucket_clock_model.specs.declared.Maybe.{Maybe}
-use Rattle.bucket_clock_model.specs.declared.Maybe.TheVariants.{None}
+use Rattle.std.specs.Prelude.{Option}
+use Rattle.std.specs.Prelude.{None}
 use Rattle.bucket_clock_model.specs.declared.Waiting.{Waiting}
 use Rattle.bucket_clock_model.specs.Desk.{clock_cleared, clock_held, count_words, cycle_done, cycled, cycle_ok, CycleOutcome, cycle_outcome, cycle_run, cycle_still, Desk, desk, desk_ok, fresh, held_ok, held_words, rule_now, stages, stages_ok, waiting}
 use Rattle.bucket_clock_step.specs.Stages.{Ready}
@@ -29,29 +29,29 @@ module _ (k : Lay) (h : ℕ) (g : Ruled) where
   says : (a : Answer) → No a → ruling g.answer g.op ≡ ruling a Idle
   says a n = λ i. ruling (n.0 i) (n.1 i)
 
-  pub push-far : (x : Element) → k.ranks ≤ x.rank.0 → No (Refused BadRank) → Rules k (Push x) h g
+  pub push-far : (x : Element) → k.ranks ≤ x.rank.0 → No (Err BadRank) → Rules k (Push x) h g
   push-far x l n = record { is = rw (le-ltb x.rank.0 k.ranks l) (says _ n); counts = none n.1 }
 
-  pub push-bare : (x : Element) (t : Bool) → x.rank.0 < k.ranks → t ≡ untagged x → t ≡ true → No (Refused NoTag) → Rules k (Push x) h g
+  pub push-bare : (x : Element) (t : Bool) → x.rank.0 < k.ranks → t ≡ untagged x → t ≡ true → No (Err NoTag) → Rules k (Push x) h g
   push-bare x t l e y n = record { is = rw (lt-ltb x.rank.0 k.ranks l, sym e ∙ y) (says _ n); counts = none n.1 }
 
-  pub push-full : (x : Element) (t : Bool) → x.rank.0 < k.ranks → t ≡ untagged x → t ≡ false → k.nodes ≤ h → No (Refused Full) → Rules k (Push x) h g
+  pub push-full : (x : Element) (t : Bool) → x.rank.0 < k.ranks → t ≡ untagged x → t ≡ false → k.nodes ≤ h → No (Err Full) → Rules k (Push x) h g
   push-full x t l e y f n = record { is = rw (lt-ltb x.rank.0 k.ranks l, sym e ∙ y, le-ltb h k.nodes f) (says _ n); counts = none n.1 }
 
-  pub pop-none : h ≡ 0 → No (Refused Empty) → Rules k Pop h g
+  pub pop-none : h ≡ 0 → No (Err Empty) → Rules k Pop h g
   pop-none e n = record { is = rw (eq-eqb h 0 e) (says _ n); counts = none n.1 }
 
-  pub replace-far : (x : Element) → k.ranks ≤ x.rank.0 → No (Refused BadRank) → Rules k (Replace x) h g
+  pub replace-far : (x : Element) → k.ranks ≤ x.rank.0 → No (Err BadRank) → Rules k (Replace x) h g
   replace-far x l n = record { is = rw (le-ltb x.rank.0 k.ranks l) (says _ n); counts = none n.1 }
 
-  pub replace-bare : (x : Element) (t : Bool) → x.rank.0 < k.ranks → t ≡ untagged x → t ≡ true → No (Refused NoTag) → Rules k (Replace x) h g
+  pub replace-bare : (x : Element) (t : Bool) → x.rank.0 < k.ranks → t ≡ untagged x → t ≡ true → No (Err NoTag) → Rules k (Replace x) h g
   replace-bare x t l e y n = record { is = rw (lt-ltb x.rank.0 k.ranks l, sym e ∙ y) (says _ n); counts = none n.1 }
 
-  pub replace-none : (x : Element) (t : Bool) → x.rank.0 < k.ranks → t ≡ untagged x → t ≡ false → h ≡ 0 → No (Refused Empty) → Rules k (Replace x) h g
+  pub replace-none : (x : Element) (t : Bool) → x.rank.0 < k.ranks → t ≡ untagged x → t ≡ false → h ≡ 0 → No (Err Empty) → Rules k (Replace x) h g
   replace-none x t l e y f n = record { is = rw (lt-ltb x.rank.0 k.ranks l, sym e ∙ y, eq-eqb h 0 f) (says _ n); counts = none n.1 }
 
 abbrev goes : Request → Ruled
-goes q = record { answer = Done; op = q }
+goes q = record { answer = (Ok None); op = q }
 
 module _ (k : Lay) (h : ℕ) where
   pub idle-goes : Rules k Idle h (goes Idle)
@@ -121,10 +121,10 @@ module _ (k : Lay) (q : Request) (b c w : List ℕ) (rs : List Waiting) (h : ℕ
   held-good Pop e = rw (← he) (le-leb h k.nodes (ltb-false k.nodes h e))
   held-good (Replace x) e = rw (← he) (le-leb h k.nodes (ltb-false k.nodes h e))
 
-  still : (a : Answer) (y : Maybe) (rs' : List Waiting) → (a ≡ Refused Damaged) × (y ≡ None) × (rs' ≡ rs) → cycle_outcome a y (desk b c w rs') ≡ cycle_still m Damaged
+  still : (a : Answer) (y : Option Element) (rs' : List Waiting) → (a ≡ Err Damaged) × (y ≡ None) × (rs' ≡ rs) → cycle_outcome a y (desk b c w rs') ≡ cycle_still m Damaged
   still a y rs' n = λ i. cycle_outcome (n.0 i) (n.1 i) (desk b c w (n.2 i))
 
-  pub torn-held : (t : Bool) (a : Answer) (y : Maybe) (rs' : List Waiting) → t ≡ asks q → (t && ltb k.nodes h) ≡ true → (a ≡ Refused Damaged) × (y ≡ None) × (rs' ≡ rs) → cycle_outcome a y (desk b c w rs') ≡ o
+  pub torn-held : (t : Bool) (a : Answer) (y : Option Element) (rs' : List Waiting) → t ≡ asks q → (t && ltb k.nodes h) ≡ true → (a ≡ Err Damaged) × (y ≡ None) × (rs' ≡ rs) → cycle_outcome a y (desk b c w rs') ≡ o
   unfolding cycle_ok
   torn-held t a y rs' e n s =
       rw (held-bad q (sym e ∙ and_left t (ltb k.nodes h) n) (ltb-true k.nodes h (and_right t (ltb k.nodes h) n))) (still a y rs' s)
@@ -140,18 +140,18 @@ module _ (k : Lay) (q : Request) (b c w : List ℕ) (rs : List Waiting) (h : ℕ
     unfolding cycle_ok
     ok-is u e = rw (fine, e, op-is) refl
 
-    pub torn-stages : (u : Bool) (a : Answer) (y : Maybe) (rs' : List Waiting) → u ≡ stages_ok k 0 k.storeys (waiting g.op 0) m → u ≡ false
-        → (a ≡ Refused Damaged) × (y ≡ None) × (rs' ≡ rs) → cycle_outcome a y (desk b c w rs') ≡ o
+    pub torn-stages : (u : Bool) (a : Answer) (y : Option Element) (rs' : List Waiting) → u ≡ stages_ok k 0 k.storeys (waiting g.op 0) m → u ≡ false
+        → (a ≡ Err Damaged) × (y ≡ None) × (rs' ≡ rs) → cycle_outcome a y (desk b c w rs') ≡ o
     torn-stages u a y rs' e n s = rw (ok-is u e ∙ n) (still a y rs' s)
 
     -- all tests have passed, and all stages have worked
-    pub runs : (u : Bool) → u ≡ stages_ok k 0 k.storeys (waiting g.op 0) m → u ≡ true → (y : Maybe) (b1 c1 w1 w2 : List ℕ) (rs1 : List Waiting) (v : ℕ)
+    pub runs : (u : Bool) → u ≡ stages_ok k 0 k.storeys (waiting g.op 0) m → u ≡ true → (y : Option Element) (b1 c1 w1 w2 : List ℕ) (rs1 : List Waiting) (v : ℕ)
         → step y (desk b1 c1 w1 rs1) ≡ stages k 0 k.storeys (waiting g.op 0) m → word w1 k.held ≡ word w k.held → v ≡ held_after g.op h → w2 ≡ set w1 k.held v
         → cycle_outcome g.answer y (desk b1 c1 w2 rs1) ≡ o
     unfolding cycle_run
     runs u e n y b1 c1 w1 w2 rs1 v z same f x =
         let s : w2 ≡ held_words k g.op w1 = x ∙ ap (set w1 k.held) (f ∙ ap (held_after g.op) (he ∙ sym same)) ∙ written k g.op w1 in
-        rw (ok-is u e ∙ n) (ap (λ (w2 : List ℕ). cycle_outcome g.answer y (desk b1 c1 w2 rs1)) s ∙ ap (λ (t : Step Maybe Desk). cycle_outcome g.answer t.said (desk t.next.bits t.next.counts (held_words k g.op t.next.words) t.next.records)) z ∙ as-ruled)
+        rw (ok-is u e ∙ n) (ap (λ (w2 : List ℕ). cycle_outcome g.answer y (desk b1 c1 w2 rs1)) s ∙ ap (λ (t : Step (Option Element) Desk). cycle_outcome g.answer t.said (desk t.next.bits t.next.counts (held_words k g.op t.next.words) t.next.records)) z ∙ as-ruled)
       where
         as-ruled : cycle_outcome g.answer (cycle_run k g.op m).said (cycle_run k g.op m).next ≡ cycle_done k (rule_now k q m) m
         as-ruled = ap (λ (x : Ruling Request). cycle_done k x m) ruled-is
@@ -213,20 +213,20 @@ module _ (d n : ℕ) (b c w : List ℕ) (t : Bool) (e : t ≡ lends d n b c w) w
     cycled-is r rs k x f z = z ∙ ap (λ (k : Lay). cond (cycle_ok k r (desk b c w rs)) (cycle_done k (rule_now k r (desk b c w rs)) (desk b c w rs)) (cycle_still (desk b c w rs) Damaged)) f ∙ rw (desk-ok rs) refl
 
     pub cleared-is : (rs rs1 : List Waiting) (k : Lay) (b1 c1 w1 : List ℕ) → k ≡ queue d n → b1 ≡ fill (λ j. 0) (k.bits + k.tower) b → c1 ≡ fill (λ j. 0) (64 * (k.bits + k.tower)) c → w1 ≡ fill (blank_word k) (store_words k) w → rs1 ≡ fresh
-        → cycle_outcome Done None (desk b1 c1 w1 rs1) ≡ clock_cleared (queue d n) (desk b c w rs)
+        → cycle_outcome (Ok None) None (desk b1 c1 w1 rs1) ≡ clock_cleared (queue d n) (desk b c w rs)
     unfolding clock_cleared
     cleared-is rs rs1 k b1 c1 w1 f x y z v =
-        (λ i. cycle_outcome Done None (desk (x i) (y i) (z i) (v i)))
-        ∙ ap (λ (k : Lay). cycle_outcome Done None (desk (fill (λ j. 0) (k.bits + k.tower) b) (fill (λ j. 0) (64 * (k.bits + k.tower)) c) (fill (blank_word k) (store_words k) w) fresh)) f
+        (λ i. cycle_outcome (Ok None) None (desk (x i) (y i) (z i) (v i)))
+        ∙ ap (λ (k : Lay). cycle_outcome (Ok None) None (desk (fill (λ j. 0) (k.bits + k.tower) b) (fill (λ j. 0) (64 * (k.bits + k.tower)) c) (fill (blank_word k) (store_words k) w) fresh)) f
         ∙ rw (desk-ok rs) refl
 
-    pub held-torn : (k : Lay) (h : ℕ) → k ≡ queue d n → h ≡ word w k.held → k.nodes < h → HeldIs (queue d n) b c w (Unknown Damaged)
+    pub held-torn : (k : Lay) (h : ℕ) → k ≡ queue d n → h ≡ word w k.held → k.nodes < h → HeldIs (queue d n) b c w (Err Damaged)
     unfolding clock_held
     held-torn k h f g l rs =
         let p : leb (word w (queue d n).held) (queue d n).nodes ≡ false = ap (λ (k : Lay). leb (word w k.held) k.nodes) (sym f) ∙ ap (λ (h : ℕ). leb h k.nodes) (sym g) ∙ lt-leb h k.nodes l in
         rw (desk-ok rs, p) refl
 
-    pub held-told : (k : Lay) (h : ℕ) → k ≡ queue d n → h ≡ word w k.held → h ≤ k.nodes → HeldIs (queue d n) b c w (Held h)
+    pub held-told : (k : Lay) (h : ℕ) → k ≡ queue d n → h ≡ word w k.held → h ≤ k.nodes → HeldIs (queue d n) b c w (Ok h)
     unfolding clock_held
     held-told k h f g l rs =
         let x : h ≡ word w (queue d n).held = g ∙ ap (λ (k : Lay). word w k.held) f in
@@ -238,18 +238,18 @@ module _ (d n : ℕ) (b c w : List ℕ) (t : Bool) (e : t ≡ lends d n b c w) w
     unfolding desk_ok
     desk-bad rs = sym e ∙ none
 
-    stands : (rs rs' : List Waiting) (a : Answer) (y : Maybe) → (a ≡ Refused BadShape) × (y ≡ None) × (rs' ≡ rs) → cycle_outcome a y (desk b c w rs') ≡ cycle_still (desk b c w rs) BadShape
+    stands : (rs rs' : List Waiting) (a : Answer) (y : Option Element) → (a ≡ Err BadShape) × (y ≡ None) × (rs' ≡ rs) → cycle_outcome a y (desk b c w rs') ≡ cycle_still (desk b c w rs) BadShape
     stands rs rs' a y n = λ i. cycle_outcome (n.0 i) (n.1 i) (desk b c w (n.2 i))
 
-    pub cycled-bad : (r : Request) (rs rs' : List Waiting) (a : Answer) (y : Maybe) → (a ≡ Refused BadShape) × (y ≡ None) × (rs' ≡ rs) → cycle_outcome a y (desk b c w rs') ≡ cycled (queue d n) r (desk b c w rs)
+    pub cycled-bad : (r : Request) (rs rs' : List Waiting) (a : Answer) (y : Option Element) → (a ≡ Err BadShape) × (y ≡ None) × (rs' ≡ rs) → cycle_outcome a y (desk b c w rs') ≡ cycled (queue d n) r (desk b c w rs)
     unfolding cycled
     cycled-bad r rs rs' a y s = rw (desk-bad rs) (stands rs rs' a y s)
 
-    pub cleared-bad : (rs rs' : List Waiting) (a : Answer) (y : Maybe) → (a ≡ Refused BadShape) × (y ≡ None) × (rs' ≡ rs) → cycle_outcome a y (desk b c w rs') ≡ clock_cleared (queue d n) (desk b c w rs)
+    pub cleared-bad : (rs rs' : List Waiting) (a : Answer) (y : Option Element) → (a ≡ Err BadShape) × (y ≡ None) × (rs' ≡ rs) → cycle_outcome a y (desk b c w rs') ≡ clock_cleared (queue d n) (desk b c w rs)
     unfolding clock_cleared
     cleared-bad rs rs' a y s = rw (desk-bad rs) (stands rs rs' a y s)
 
-    pub held-bad-shape : HeldIs (queue d n) b c w (Unknown BadShape)
+    pub held-bad-shape : HeldIs (queue d n) b c w (Err BadShape)
     unfolding clock_held
     held-bad-shape rs = rw (desk-bad rs) refl
 

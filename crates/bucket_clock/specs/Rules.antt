@@ -1,6 +1,6 @@
 -- What a request comes to, and what held says. These are definitions.
 use Rattle.std.specs.Prelude.{◌<◌, ◌≡◌}
-use Rattle.laws.specs.Prelude.{Count, Done, Idle, List, Pop, Push, Refused, Replace, Request, ℕ}
+use Rattle.laws.specs.Prelude.{Idle, List, Pop, Push, Replace, Request, ℕ, Result, Refusal, Ok, None, Err}
 use Rattle.promise.specs.Prelude.{Ruling, decided, ruling}
 use Rattle.bucket_model.specs.declared.Lay.{Lay}
 use Rattle.bucket_clock_model.specs.Clock.{late_table}
@@ -17,9 +17,9 @@ Counts n (Replace x) h = Unit {0}
 
 -- a request is answered, and goes in, as the table says where h are held
 pub record Rules (k : Lay) (q : Request) (h : ℕ) (g : Ruled) : Type 0 where
-  pub is : ruling g.answer g.op ≡ decided (λ n. ruling (Refused n) Idle) (late_table k.ranks k.nodes q h) (ruling Done q)
+  pub is : ruling g.answer g.op ≡ decided (λ n. ruling (Err n) Idle) (late_table k.ranks k.nodes q h) (ruling (Ok None) q)
   pub counts : Counts k.nodes g.op h
 
 -- held reads no record
-abbrev pub HeldIs : Lay → List ℕ → List ℕ → List ℕ → Count → Type 0
+abbrev pub HeldIs : Lay → List ℕ → List ℕ → List ℕ → Result ℕ Refusal → Type 0
 HeldIs k b c w r = (rs : List Waiting) → r ≡ clock_held k (desk b c w rs)

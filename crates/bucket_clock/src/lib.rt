@@ -2,28 +2,27 @@
 // storey. An operation may be asked for in every cycle: nothing is ever too soon, and what leaves belongs to the request of `storeys` cycles ago.
 #![tactic(auto)]
 
-ghost use Rattle.std.specs.Prelude.{cond, ◌&&◌, ◌≡◌, ◌≤◌, leb, length};
+ghost use Rattle.std.specs.Prelude.{cond, ◌&&◌, ◌≡◌, leb, length};
 ghost use Rattle.strip.specs.declared.Refusal.TheVariants.{Damaged};
 ghost use Rattle.bucket_clock_model.specs.Clock.{held_after};
-ghost use Rattle.bucket_clock_model.specs.Desk.{clock_cleared, count_words, cycle_done, cycled, cycle_ok, cycle_outcome, cycle_still, desk, fresh, no_work, rule_now};
-ghost use Rattle.bucket_clock_model.specs.declared.Maybe.TheVariants.{None};
+ghost use Rattle.bucket_clock_model.specs.Desk.{clock_cleared, count_words, cycle_done, cycled, cycle_ok, cycle_outcome, cycle_still, desk, fresh, rule_now};
+ghost use Rattle.std.specs.Prelude.{None};
 ghost use Rattle.bucket_clock_step.specs.Stages.{Ready};
-ghost use Rattle.bucket_model.specs.Calls.{fill};
 ghost use Rattle.bucket_model.specs.Checks.{shape_ok};
 ghost use Rattle.bucket_model.specs.Layout.{queue};
 ghost use Rattle.bucket_clock.specs.Rules.{Counts, HeldIs, Rules};
 
 use bucket_bits::wipe;
-use bucket_clock_model::{BucketCycled, Maybe, RECORDS, Waiting};
+use bucket_clock_model::{BucketCycled, RECORDS, Waiting, no_work};
 use bucket_clock_step::stages::{run_stages, stages_ok};
 use bucket_model::Lay;
 use bucket_node::{held_count, queue_of, wipe_words};
 use bucket_step::tests::{is_deep, is_shaped};
-use strip::{Answer, Count, Element, Refusal, Request, asks_something, is_untagged};
+use strip::{Answer, Element, Refusal, Request, asks_something, is_untagged};
 
 // ---- a request
 
-// What a request comes to: its answer, and what goes into the top storey.
+// What a request comes to: its answer, and what goes into the top storey. No Result: `Rules` promises what goes in where it is refused too.
 #[derive(Clone, Copy)]
 pub struct Ruled {
     pub answer: Answer,
@@ -32,10 +31,10 @@ pub struct Ruled {
 
 // A refused request's cycle runs as an idle one.
 fn refuse(r: Refusal) -> Ruled
-    ensures { (result.answer ≡ Answer.Refused r) × (result.op ≡ Request.Idle) }
+    ensures { (result.answer ≡ Err r) × (result.op ≡ Request.Idle) }
 {
     Ruled {
-        answer: Answer::Refused(r),
+        answer: Err(r),
         op: Request::Idle,
     }
 }
@@ -44,8 +43,7 @@ fn refuse(r: Refusal) -> Ruled
 fn rule_push(k: Lay, held: u32, x: Element) -> Ruled
     ensures { Rules k (Request.Push x) held result }
 {
-    let rank = x.rank.0;
-    if k.ranks <= rank {
+    if k.ranks <= x.rank.0 {
         return refuse(Refusal::BadRank);
     }
     if is_untagged(x) {
@@ -55,7 +53,7 @@ fn rule_push(k: Lay, held: u32, x: Element) -> Ruled
         return refuse(Refusal::Full);
     }
     Ruled {
-        answer: Answer::Done,
+        answer: Ok(None),
         op: Request::Push(x),
     }
 }
@@ -68,7 +66,7 @@ fn rule_pop(k: Lay, held: u32) -> Ruled
         return refuse(Refusal::Empty);
     }
     Ruled {
-        answer: Answer::Done,
+        answer: Ok(None),
         op: Request::Pop,
     }
 }
@@ -77,8 +75,7 @@ fn rule_pop(k: Lay, held: u32) -> Ruled
 fn rule_replace(k: Lay, held: u32, x: Element) -> Ruled
     ensures { Rules k (Request.Replace x) held result }
 {
-    let rank = x.rank.0;
-    if k.ranks <= rank {
+    if k.ranks <= x.rank.0 {
         return refuse(Refusal::BadRank);
     }
     if is_untagged(x) {
@@ -88,7 +85,7 @@ fn rule_replace(k: Lay, held: u32, x: Element) -> Ruled
         return refuse(Refusal::Empty);
     }
     Ruled {
-        answer: Answer::Done,
+        answer: Ok(None),
         op: Request::Replace(x),
     }
 }
@@ -96,9 +93,10 @@ fn rule_replace(k: Lay, held: u32, x: Element) -> Ruled
 fn rule(k: Lay, held: u32, request: Request) -> Ruled
     ensures { Rules k request held result }
 {
+    // each arm hands over other values: a closure for the step would be no plainer
     match request {
         Request::Idle => Ruled {
-            answer: Answer::Done,
+            answer: Ok(None),
             op: Request::Idle,
         },
         Request::Push(x) => rule_push(k, held, x),
@@ -123,11 +121,11 @@ fn held_after(n: u32, op: Request, held: u32) -> u32
 // ---- a cycle
 
 fn left_as(refusal: Refusal, records: [Waiting; RECORDS]) -> BucketCycled
-    ensures { (result.answer ≡ Answer.Refused refusal) × (result.leaves ≡ None) × (result.records ≡ records) }
+    ensures { (result.answer ≡ Err refusal) × (result.leaves ≡ None) × (result.records ≡ records) }
 {
     BucketCycled {
-        answer: Answer::Refused(refusal),
-        leaves: Maybe::None,
+        answer: Err(refusal),
+        leaves: None,
         records,
     }
 }
@@ -146,9 +144,10 @@ fn cycle_shaped(
 {
     let held = held_count(words, k);
     let ruled = rule(k, held, request);
-    let answer = ruled.answer;
-    let op = ruled.op;
-    let first = Waiting { does: op, way: 0 };
+    let first = Waiting {
+        does: ruled.op,
+        way: 0,
+    };
     if asks_something(request) & (k.nodes < held) {
         return left_as(Refusal::Damaged, records);
     }
@@ -156,13 +155,11 @@ fn cycle_shaped(
         return left_as(Refusal::Damaged, records);
     }
     let ran = run_stages(bits, counts, words, k, first, records);
-    let leaves = ran.leaves;
-    let left = ran.records;
-    let at = k.held;
-    words[at] = held_after(k.nodes, op, held);
+    words[k.held] = held_after(k.nodes, ruled.op, held);
+    let left = ran.records; // a variable, since an array of another struct's cannot be put into a literal straight
     BucketCycled {
-        answer,
-        leaves,
+        answer: ruled.answer,
+        leaves: ran.leaves,
         records: left,
     }
 }
@@ -175,9 +172,7 @@ fn is_lent(bits: &[u64], words: &[u32], counts: &[u32], storeys: usize, n: u32) 
         return false;
     }
     let k = queue_of(storeys, n);
-    let shaped = is_shaped(bits, words, k);
-    let least = 64 * (k.bits + k.tower);
-    shaped & (least <= counts.len())
+    is_shaped(bits, words, k) & (64 * (k.bits + k.tower) <= counts.len())
 }
 
 // One cycle with this request, or idle.
@@ -250,32 +245,11 @@ pub fn replace(
 
 // ---- clear and held
 
-fn no_work() -> Waiting
-    ensures { result ≡ no_work }
-{
-    Waiting {
-        does: Request::Idle,
-        way: 0,
-    }
-}
-
 // Nothing pending, for a machine that was never used.
 pub fn fresh_records() -> [Waiting; RECORDS]
     ensures { result ≡ fresh }
 {
     [no_work(); RECORDS]
-}
-
-// The first counts, all 0.
-fn wipe_counts(counts: &mut [u32], end: usize)
-    requires { end ≤ length counts.old }
-    ensures { counts.new ≡ fill (λ j. 0) end counts.old }
-{
-    let mut j = 0;
-    while j < end {
-        counts[j] = 0;
-        j += 1;
-    }
 }
 
 // An empty machine, whatever the slices held before. Refused, the records that were handed over come back.
@@ -294,27 +268,33 @@ pub fn clear(
     }
     let k = queue_of(storeys, n);
     wipe(bits, k.bits + k.tower);
-    wipe_counts(counts, 64 * (k.bits + k.tower));
+    counts[..64 * (k.bits + k.tower)].fill(0);
     wipe_words(words, k);
     let none = fresh_records();
     BucketCycled {
-        answer: Answer::Done,
-        leaves: Maybe::None,
+        answer: Ok(None),
+        leaves: None,
         records: none,
     }
 }
 
 // How many are held, in the middle of any work too: the held word, and no record is read.
-pub fn held(bits: &[u64], words: &[u32], counts: &[u32], storeys: usize, n: u32) -> Count
+pub fn held(
+    bits: &[u64],
+    words: &[u32],
+    counts: &[u32],
+    storeys: usize,
+    n: u32,
+) -> Result<u32, Refusal>
     ensures { HeldIs (queue storeys n) bits.now counts.now words.now result }
 {
     if !is_lent(bits, words, counts, storeys, n) {
-        return Count::Unknown(Refusal::BadShape);
+        return Err(Refusal::BadShape);
     }
     let k = queue_of(storeys, n);
     let held = held_count(words, k);
     if k.nodes < held {
-        return Count::Unknown(Refusal::Damaged);
+        return Err(Refusal::Damaged);
     }
-    Count::Held(held)
+    Ok(held)
 }

@@ -1,6 +1,6 @@
 -- The rules' table of the front, on its words, to be computed. These are definitions.
 use Rattle.std.specs.Prelude.{◌∷◌}
-use Rattle.laws.specs.Prelude.{Answer, Done, Idle, List, Out, Pop, Push, Replace, Request, [], element, replicate, ℕ}
+use Rattle.laws.specs.Prelude.{Answer, Idle, List, Pop, Push, Replace, Request, [], element, replicate, ℕ, Ok, None, Some}
 use Rattle.bucket_clock_model.specs.declared.Waiting.{Waiting}
 use Rattle.bucket_clock_model.specs.Desk.{desk, no_work, waiting}
 use Rattle.bucket_model.specs.Prelude.{filled, queue}
@@ -26,7 +26,7 @@ abbrev pub front_after : List Request → FrontDesk
 front_after qs = leaves (front_queue (queue 2 7)) qs front_start
 
 abbrev pub front_heard : List Answer
-front_heard = Out (element 10 1 100) ∷ Done ∷ Out (element 5 7 700) ∷ Out (element 20 2 200) ∷ Done ∷ []
+front_heard = Ok (Some (element 10 1 100)) ∷ (Ok None) ∷ Ok (Some (element 5 7 700)) ∷ Ok (Some (element 20 2 200)) ∷ (Ok None) ∷ []
 
 -- every word of the front that is not 0, the held word's place and value among the queue's words, and the records
 pub record FrontSeen : Type 0 where

@@ -1,11 +1,11 @@
 -- The rules' table of stages, to be computed: what leaves, and every word that is not 0, cycle by cycle; and the counts' places in plain numbers. These
 -- are definitions.
 use Rattle.std.specs.Prelude.{◌∷◌}
-use Rattle.laws.specs.Prelude.{Done, Idle, List, Pop, Push, Replace, Request, [], element, replicate, ℕ}
+use Rattle.laws.specs.Prelude.{Element, Idle, List, Pop, Push, Replace, Request, [], element, replicate, ℕ, Ok, None}
 use Rattle.bucket_model.specs.Prelude.{filled, queue}
 use Rattle.promise.specs.Prelude.{leaves}
-use Rattle.bucket_clock_model.specs.declared.Maybe.{Maybe}
-use Rattle.bucket_clock_model.specs.declared.Maybe.TheVariants.{None, Some}
+use Rattle.std.specs.Prelude.{Option}
+use Rattle.std.specs.Prelude.{None, Some}
 use Rattle.bucket_clock_model.specs.declared.Waiting.{Waiting}
 use Rattle.bucket_clock_model.specs.Desk.{clock_cleared, Desk, desk, Heard, no_work, cycling, waiting}
 
@@ -85,8 +85,8 @@ seen_five =
 abbrev pub case_now : List Request
 case_now = Pop ∷ Replace (element 70 4 9000) ∷ Pop ∷ Idle ∷ Idle ∷ []
 
-abbrev pub done : Maybe → Heard
-done x = record { number = Done; leaves = x }
+abbrev pub done : Option Element → Heard
+done x = record { number = (Ok None); leaves = x }
 
 abbrev pub case_heard : List Heard
 case_heard = done None ∷ done None ∷ done (Some (element 7 1 64)) ∷ done (Some (element 7 2 1500)) ∷ done (Some (element 70 3 40)) ∷ []

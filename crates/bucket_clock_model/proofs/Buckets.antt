@@ -3,8 +3,8 @@ use Rattle.laws.specs.Prelude.{Bool, Element, List, Request, [], ◌++◌, ◌�
 use mathlib.Core.List.{append-nil}
 use Rattle.bucket_model.specs.Prelude.{Sorted, of_rank}
 use Rattle.bucket_model.proofs.Laws.{insert-rank}
-use Rattle.bucket_clock_model.specs.declared.Maybe.{Maybe}
-use Rattle.bucket_clock_model.specs.declared.Maybe.TheVariants.{None, Some}
+use Rattle.std.specs.Prelude.{Option}
+use Rattle.std.specs.Prelude.{None, Some}
 use Rattle.bucket_clock_model.specs.Lists.{done, left, newcomer, placed, taken, takes}
 use Rattle.bucket_clock_model.specs.Pipe.{Fit, headless, joined, lead}
 use Rattle.bucket_clock_model.proofs.Counts.{left-sorted}
@@ -38,7 +38,7 @@ module _ (b : ℕ → List Element) where
     | no e ↦ (is-upd b w (left true (b w))).else r e ∙ h r ∙ rank-other r x l (λ p. e (sym p ∙ f))
   ]
 
-joined_is : (b : ℕ → List Element) (x : Maybe) (l : List Element) → Sorted l → ((r : ℕ) → b r ≡ of_rank r l) → (r : ℕ) → joined x b r ≡ of_rank r (placed x l)
+joined_is : (b : ℕ → List Element) (x : Option Element) (l : List Element) → Sorted l → ((r : ℕ) → b r ≡ of_rank r l) → (r : ℕ) → joined x b r ≡ of_rank r (placed x l)
 joined_is b None l s h r = h r
 joined_is b (Some x) l s h r = elim (ℕ_discrete r x.rank.0) [
   | yes e ↦ ap (upd b x.rank.0 v) e ∙ (is-upd b x.rank.0 v).here ∙ ap (λ (m : List Element). m ++ x ∷ []) (h x.rank.0) ∙ ap (λ (m : List Element). of_rank x.rank.0 l ++ m) (sym one) ∙ sym (insert-rank x.rank.0 x l s) ∙ ap (λ (n : ℕ). of_rank n (placed (Some x) l)) (sym e)

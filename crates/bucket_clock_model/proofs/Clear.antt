@@ -8,7 +8,7 @@ use Rattle.bucket_model.specs.Prelude.{Laid, Outcome, bit_words, blank_word, fil
 use Rattle.bucket_model.specs.declared.Lay.{Lay}
 use Rattle.bucket_clock_model.specs.Clock.{fresh_machine}
 use Rattle.bucket_clock_model.specs.Damage.{DeskShaped}
-use Rattle.bucket_clock_model.specs.declared.Maybe.TheVariants.{None}
+use Rattle.std.specs.Prelude.{None}
 use Rattle.bucket_clock_model.specs.Desk.{clock_cleared, count_words, Desk, floor_of, fresh, no_work, wiped, work_at}
 use Rattle.bucket_clock_model.specs.Pipe.{fresh_pipe}
 use Rattle.bucket_clock_model.proofs.Clock.{fresh-runs}

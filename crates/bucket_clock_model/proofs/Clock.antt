@@ -1,5 +1,5 @@
 -- Cycle by cycle: the numbers of one at a time, and its answers as many cycles later as there are storeys.
-use Rattle.laws.specs.Prelude.{All, BadRank, Bool, Done, Element, Empty, Full, Idle, List, NoTag, Out, Pop, Push, Refused, Replace, Request, [], ◌*◌, ◌++◌, ◌+◌, ◌-◌, ◌<◌, ◌^◌, ◌∙◌, ◌∷◌, ◌≡◌, ◌≤◌, ap, ap₂, arith, cond, false, length, ltb, ltb-true, map, ne_eqb, not, number_of, pow-suc, refl, replicate, subst, suc, sym, true, untagged, zero, ℕ}
+use Rattle.laws.specs.Prelude.{All, BadRank, Bool, Element, Empty, Full, Idle, List, NoTag, Pop, Push, Replace, Request, [], ◌*◌, ◌++◌, ◌+◌, ◌-◌, ◌<◌, ◌^◌, ◌∙◌, ◌∷◌, ◌≡◌, ◌≤◌, ap, ap₂, arith, cond, false, length, ltb, ltb-true, map, ne_eqb, not, number_of, pow-suc, refl, replicate, subst, suc, sym, true, untagged, zero, ℕ, Ok, None, Some, Err}
 use native.Mathlib.Decide.{dec_le}
 use native.Mathlib.Nat.{mul_assoc}
 use mathlib.Core.List.{append_assoc, append-nil}
@@ -7,8 +7,8 @@ use Rattle.bucket_model.specs.declared.Lay.{Lay}
 use Rattle.bucket_model.specs.Prelude.{Laid, Step, answered, ask, insert, of_rank, plain, plain_after, plain_says, plain_with, said_number, step}
 use Rattle.bucket_model.proofs.Laws.{insert_all, insert-length}
 use Rattle.promise.specs.Prelude.{answers, leaves}
-use Rattle.bucket_clock_model.specs.declared.Maybe.{Maybe}
-use Rattle.bucket_clock_model.specs.declared.Maybe.TheVariants.{None, Some}
+use Rattle.std.specs.Prelude.{Option}
+use Rattle.std.specs.Prelude.{None, Some}
 use Rattle.bucket_clock_model.specs.Lists.{arrives, done, heeded, left, many, moved, newcomer, placed, taken, takes}
 use Rattle.bucket_clock_model.specs.Pipe.{after, below, buckets_of, counts_at, Fit, fresh_pipe, lead, Shows}
 use Rattle.bucket_clock_model.specs.Clock.{clocked, fresh_machine, held_after, history, Machine, number_at, out_of, Runs, sent}
@@ -30,11 +30,11 @@ lead-top d r h = let i : lead d r < 1 = lead-lt d 1 r (omega arith) in omega ari
 
 -- ---- a request and the call of one at a time
 
-abbrev pub Ranked : ℕ → Maybe → Type 0
+abbrev pub Ranked : ℕ → Option Element → Type 0
 Ranked ranks None = Unit {0}
 Ranked ranks (Some x) = x.rank.0 < ranks
 
-pub placed-all : (ranks : ℕ) (x : Maybe) (l : List Element) → Ranked ranks x → All (λ y. y.rank.0 < ranks) l → All (λ y. y.rank.0 < ranks) (placed x l)
+pub placed-all : (ranks : ℕ) (x : Option Element) (l : List Element) → Ranked ranks x → All (λ y. y.rank.0 < ranks) l → All (λ y. y.rank.0 < ranks) (placed x l)
 placed-all ranks None l p a = a
 placed-all ranks (Some x) l p a = insert_all (λ y. y.rank.0 < ranks) x l p a
 
@@ -54,20 +54,20 @@ module _ (d R : ℕ) (there : R ≡ 64 ^ d) where
     pub count : held_after (heeded a q) (length l) ≡ length (done (heeded a q) l)
 
   same-push : (x : Element) (l : List Element) (b u r : Bool) → ltb x.rank.0 R ≡ b
-      → Same (Push x) (number_of (cond b (cond u (Refused NoTag) (cond r Done (Refused Full))) (Refused BadRank))) l (cond b (cond (not u) (cond r (step (answered Done) (insert x l)) (step (answered (Refused Full)) l)) (step (answered (Refused NoTag)) l)) (step (answered (Refused BadRank)) l))
+      → Same (Push x) (number_of (cond b (cond u (Err NoTag) (cond r (Ok None) (Err Full))) (Err BadRank))) l (cond b (cond (not u) (cond r (step (answered (Ok None)) (insert x l)) (step (answered (Err Full)) l)) (step (answered (Err NoTag)) l)) (step (answered (Err BadRank)) l))
   same-push x l true false true e = record { number = refl; next = refl; leaves = refl; fit = tt; ranked = ltb-true x.rank.0 R e; count = sym (insert-length x l) }
   same-push x l true false false e = record { number = refl; next = refl; leaves = refl; fit = tt; ranked = tt; count = refl }
   same-push x l true true r e = record { number = refl; next = refl; leaves = refl; fit = tt; ranked = tt; count = refl }
   same-push x l false u r e = record { number = refl; next = refl; leaves = refl; fit = tt; ranked = tt; count = refl }
 
   same-swap : (x y : Element) (l : List Element) (b u : Bool) → ltb x.rank.0 R ≡ b → y.rank.0 < R
-      → Same (Replace x) (number_of (cond b (cond u (Refused NoTag) Done) (Refused BadRank))) (y ∷ l) (cond b (cond (not u) (step (answered (Out y)) (insert x l)) (step (answered (Refused NoTag)) (y ∷ l))) (step (answered (Refused BadRank)) (y ∷ l)))
+      → Same (Replace x) (number_of (cond b (cond u (Err NoTag) (Ok None)) (Err BadRank))) (y ∷ l) (cond b (cond (not u) (step (answered (Ok (Some y))) (insert x l)) (step (answered (Err NoTag)) (y ∷ l))) (step (answered (Err BadRank)) (y ∷ l)))
   same-swap x y l true false e h = record { number = refl; next = refl; leaves = refl; fit = lead-top d y.rank.0 (omega (arith, there)); ranked = ltb-true x.rank.0 R e; count = sym (insert-length x l) }
   same-swap x y l true true e h = record { number = refl; next = refl; leaves = refl; fit = tt; ranked = tt; count = refl }
   same-swap x y l false u e h = record { number = refl; next = refl; leaves = refl; fit = tt; ranked = tt; count = refl }
 
   same_none : (x : Element) (b u : Bool)
-      → Same (Replace x) (number_of (cond b (cond u (Refused NoTag) (Refused Empty)) (Refused BadRank))) [] (cond b (cond (not u) (step (answered (Refused Empty)) []) (step (answered (Refused NoTag)) [])) (step (answered (Refused BadRank)) []))
+      → Same (Replace x) (number_of (cond b (cond u (Err NoTag) (Err Empty)) (Err BadRank))) [] (cond b (cond (not u) (step (answered (Err Empty)) []) (step (answered (Err NoTag)) [])) (step (answered (Err BadRank)) []))
   same_none x true true = record { number = refl; next = refl; leaves = refl; fit = tt; ranked = tt; count = refl }
   same_none x true false = record { number = refl; next = refl; leaves = refl; fit = tt; ranked = tt; count = refl }
   same_none x false u = record { number = refl; next = refl; leaves = refl; fit = tt; ranked = tt; count = refl }
@@ -83,7 +83,7 @@ module _ (d R : ℕ) (there : R ≡ 64 ^ d) where
   same-call n (Replace x) (y ∷ l) a = rw (ne_eqb (suc (length l)) 0 (λ e. omega arith)) (same-swap x y l (ltb x.rank.0 R) (untagged x) refl a.0)
 
 -- what arrives, and then what is still on the way, is what was on the way, and then what has joined it
-pub arrives-moved : (v : List Maybe) (z : Maybe) → arrives v z ∷ moved v z ≡ v ++ z ∷ []
+pub arrives-moved : (v : List (Option Element)) (z : Option Element) → arrives v z ∷ moved v z ≡ v ++ z ∷ []
 arrives-moved [] z = refl
 arrives-moved (y ∷ v) z = refl
 
@@ -94,17 +94,17 @@ idles zero = refl
 idles (suc n) = ap suc (idles n)
 
 module _ (k : Lay) (laid : Laid k) where
-  pub record Cycled (q : Request) (m : Machine k.storeys) (ago : ℕ → List Element) (v : List Maybe) : Type 0 where
+  pub record Cycled (q : Request) (m : Machine k.storeys) (ago : ℕ → List Element) (v : List (Option Element)) : Type 0 where
     pub number : (clocked k q m).said.number ≡ said_number (plain k (ask q) (ago 0)).said
     pub leaves : (clocked k q m).said.leaves ≡ arrives v (out_of (plain k (ask q) (ago 0)).said)
     pub runs : Runs k (clocked k q m).next (after (plain k (ask q) (ago 0)).next ago) (moved v (out_of (plain k (ask q) (ago 0)).said))
 
   -- the request that is sent into the pipeline fits it
-  pub same_at : (q : Request) (m : Machine k.storeys) (ago : ℕ → List Element) (v : List Maybe) → Runs k m ago v → Same k.storeys k.ranks laid.ranks q (number_at k.ranks k.nodes q m.held) (ago 0) (plain k (ask q) (ago 0))
+  pub same_at : (q : Request) (m : Machine k.storeys) (ago : ℕ → List Element) (v : List (Option Element)) → Runs k m ago v → Same k.storeys k.ranks laid.ranks q (number_at k.ranks k.nodes q m.held) (ago 0) (plain k (ask q) (ago 0))
   same_at q m ago v r =
       subst (λ (h : ℕ). Same k.storeys k.ranks laid.ranks q (number_at k.ranks k.nodes q h) (ago 0) (plain k (ask q) (ago 0))) (sym r.held) (same-call k.storeys k.ranks laid.ranks k.nodes q (ago 0) r.ranked)
 
-  pub cycles : (q : Request) (m : Machine k.storeys) (ago : ℕ → List Element) (v : List Maybe) → Runs k m ago v → Cycled q m ago v
+  pub cycles : (q : Request) (m : Machine k.storeys) (ago : ℕ → List Element) (v : List (Option Element)) → Runs k m ago v → Cycled q m ago v
   unfolding clocked
   cycles q m ago v r =
       let d : ℕ = k.storeys in
@@ -122,31 +122,31 @@ module _ (k : Lay) (laid : Laid k) where
       record {
         number = a.number;
         leaves = f.leaves ∙ ap (arrives v) a.leaves;
-        runs = subst (λ (x : Maybe). Runs k (clocked k q m).next (after (plain k (ask q) l).next ago) (moved v x)) a.leaves (subst (λ (y : List Element). Runs k (clocked k q m).next (after y ago) (moved v (taken (takes u) l))) a.next z);
+        runs = subst (λ (x : Option Element). Runs k (clocked k q m).next (after (plain k (ask q) l).next ago) (moved v x)) a.leaves (subst (λ (y : List Element). Runs k (clocked k q m).next (after y ago) (moved v (taken (takes u) l))) a.next z);
       }
 
   -- ---- any list of cycles
 
   -- the numbers of one at a time; and what leaves, followed by what will leave, is what was still to leave, followed by all that one at a time gives out
-  pub record Ran (qs : List Request) (m : Machine k.storeys) (ago : ℕ → List Element) (v : List Maybe) : Type 0 where
+  pub record Ran (qs : List Request) (m : Machine k.storeys) (ago : ℕ → List Element) (v : List (Option Element)) : Type 0 where
     pub numbers : map (λ h. h.number) (answers (clocked k) qs m) ≡ map said_number (plain_says k (map ask qs) (ago 0))
-    pub later : List Maybe
+    pub later : List (Option Element)
     pub left : map (λ h. h.leaves) (answers (clocked k) qs m) ++ later ≡ v ++ map out_of (plain_says k (map ask qs) (ago 0))
     pub runs : Runs k (leaves (clocked k) qs m) (history k qs ago) later
 
-  pub runs : (qs : List Request) (m : Machine k.storeys) (ago : ℕ → List Element) (v : List Maybe) → Runs k m ago v → Ran qs m ago v
+  pub runs : (qs : List Request) (m : Machine k.storeys) (ago : ℕ → List Element) (v : List (Option Element)) → Runs k m ago v → Ran qs m ago v
   unfolding answers leaves plain_says history
   runs [] m ago v r = record { numbers = refl; later = v; left = sym (append-nil v); runs = r }
   runs (q ∷ qs) m ago v r =
       let c : Cycled q m ago v = cycles q m ago v r in
       let x : Step (List Element) = plain k (ask q) (ago 0) in
-      let o : Maybe = out_of x.said in
+      let o : Option Element = out_of x.said in
       let t : Ran qs (clocked k q m).next (after x.next ago) (moved v o) = runs qs (clocked k q m).next (after x.next ago) (moved v o) c.runs in
-      let zs : List Maybe = map out_of (plain_says k (map ask qs) x.next) in
+      let zs : List (Option Element) = map out_of (plain_says k (map ask qs) x.next) in
       record {
         numbers = ap₂ (λ (a : ℕ) (as' : List ℕ). a ∷ as') c.number t.numbers;
         later = t.later;
-        left = ap₂ (λ (a : Maybe) (as' : List Maybe). a ∷ as') c.leaves t.left ∙ ap (λ (w : List Maybe). w ++ zs) (arrives-moved v o) ∙ append_assoc v (o ∷ []) zs;
+        left = ap₂ (λ (a : Option Element) (as' : List (Option Element)). a ∷ as') c.leaves t.left ∙ ap (λ (w : List (Option Element)). w ++ zs) (arrives-moved v o) ∙ append_assoc v (o ∷ []) zs;
         runs = t.runs;
       }
 
@@ -194,9 +194,9 @@ none_of : (r : ℕ) → of_rank r [] ≡ []
 unfolding of_rank
 none_of r = refl
 
-nones : (d : ℕ) → replicate (suc d) None ≡ replicate d None ++ None ∷ []
+nones : (d : ℕ) → ◌≡◌ {A = List (Option Element)} (replicate (suc d) None) (replicate d None ++ None ∷ [])
 nones zero = refl
-nones (suc d) = ap (λ (w : List Maybe). None ∷ w) (nones d)
+nones (suc d) = ap (λ (w : List (Option Element)). None ∷ w) (nones d)
 
 pub fresh-shows : (d : ℕ) → Shows d (fresh_pipe d) (λ i. []) (replicate d None)
 fresh-shows zero = ((λ r. sym (none_of r)), refl)

@@ -3,15 +3,15 @@ use Rattle.laws.specs.Prelude.{All, Bool, Element, List, [], ◌++◌, ◌+◌, 
 use Rattle.bucket_model.specs.Prelude.{Sorted, insert}
 use Rattle.bucket_model.proofs.Laws.{insert-sorted}
 use Rattle.promise.specs.Prelude.{always, hit, lower}
-use Rattle.bucket_clock_model.specs.declared.Maybe.{Maybe}
-use Rattle.bucket_clock_model.specs.declared.Maybe.TheVariants.{None, Some}
+use Rattle.std.specs.Prelude.{Option}
+use Rattle.std.specs.Prelude.{None, Some}
 use Rattle.bucket_clock_model.specs.Lists.{arrives, at, but_last, coming, first, last, left, many, moved, placed, taken}
 
 pub hit-le : (b : Bool) → hit b ≤ 1
 hit-le true = omega arith
 hit-le false = omega arith
 
-pub at-le : (f : Element → Bool) (x : Maybe) → at f x ≤ 1
+pub at-le : (f : Element → Bool) (x : Option Element) → at f x ≤ 1
 at-le f None = omega arith
 at-le f (Some x) = hit-le (f x)
 
@@ -34,7 +34,7 @@ insert-many f e (x ∷ l) = go (ltb e.rank.0 x.rank.0) (insert-many f e l)
     go true ih = refl
     go false ih = omega arith
 
-pub placed-many : (f : Element → Bool) (x : Maybe) (l : List Element) → many f (placed x l) ≡ at f x + many f l
+pub placed-many : (f : Element → Bool) (x : Option Element) (l : List Element) → many f (placed x l) ≡ at f x + many f l
 placed-many f None l = omega arith
 placed-many f (Some x) l = insert-many f x l
 
@@ -52,32 +52,32 @@ last-many f (x ∷ y ∷ l) = omega (arith, last-many f (y ∷ l))
 
 -- ---- the way
 
-pub coming-le : (f : Element → Bool) (w : List Maybe) → coming f w ≤ length w
+pub coming-le : (f : Element → Bool) (w : List (Option Element)) → coming f w ≤ length w
 unfolding coming
 coming-le f [] = omega arith
 coming-le f (y ∷ w) = omega (arith, at-le f y, coming-le f w)
 
-pub coming-end : (f : Element → Bool) (w : List Maybe) (z : Maybe) → coming f (w ++ z ∷ []) ≡ coming f w + at f z
+pub coming-end : (f : Element → Bool) (w : List (Option Element)) (z : Option Element) → coming f (w ++ z ∷ []) ≡ coming f w + at f z
 unfolding coming
 coming-end f [] z = omega arith
 coming-end f (y ∷ w) z = omega (arith, coming-end f w z)
 
-pub moved-coming : (f : Element → Bool) (w : List Maybe) (z : Maybe) → coming f (moved w z) + at f (arrives w z) ≡ coming f w + at f z
+pub moved-coming : (f : Element → Bool) (w : List (Option Element)) (z : Option Element) → coming f (moved w z) + at f (arrives w z) ≡ coming f w + at f z
 unfolding coming
 moved-coming f [] z = omega arith
 moved-coming f (y ∷ w) z = omega (arith, coming-end f w z)
 
-end-length : (w : List Maybe) (z : Maybe) → length (w ++ z ∷ []) ≡ suc (length w)
+end-length : (w : List (Option Element)) (z : Option Element) → length (w ++ z ∷ []) ≡ suc (length w)
 end-length [] z = refl
 end-length (y ∷ w) z = ap suc (end-length w z)
 
-pub moved_length : (w : List Maybe) (z : Maybe) → length (moved w z) ≡ length w
+pub moved_length : (w : List (Option Element)) (z : Option Element) → length (moved w z) ≡ length w
 moved_length [] z = refl
 moved_length (y ∷ w) z = end-length w z
 
 -- ---- order
 
-pub placed-sorted : (x : Maybe) (l : List Element) → Sorted l → Sorted (placed x l)
+pub placed-sorted : (x : Option Element) (l : List Element) → Sorted l → Sorted (placed x l)
 placed-sorted None l s = s
 placed-sorted (Some x) l s = insert-sorted x l s
 

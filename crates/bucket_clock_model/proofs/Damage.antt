@@ -1,12 +1,12 @@
 -- Each test stands for its fact.
-use Rattle.laws.specs.Prelude.{Bool, Fails, Idle, List, Means, Pop, Push, Replace, Request, ◌%◌, ◌+◌, false, length, means-and, means-beq, means-by, means-differ, means-eqb, means-leb, means-ltb, means-no, means-not, means-off, refl, suc, true, zero, ℕ}
+use Rattle.laws.specs.Prelude.{Element, Bool, Fails, Idle, List, Means, Pop, Push, Replace, Request, ◌%◌, ◌+◌, false, length, means-and, means-beq, means-by, means-differ, means-eqb, means-leb, means-ltb, means-no, means-not, means-off, refl, suc, true, zero, ℕ}
 use Rattle.bitmap.specs.Bits.{bit-lt}
 use Rattle.bucket_model.proofs.Laws.{clear-means, shape-means}
 use Rattle.bucket_model.specs.Prelude.{Storey, bit_no, bit_of, head_at, next_of, pop_ok, storey, tail_at, word, word_of}
 use Rattle.bucket_model.specs.declared.Lay.{Lay}
 use Rattle.bucket_clock_model.specs.Damage.{BucketFit, BucketNewFit, BucketPutFit, BucketTakeFit, BucketTakesFit, DeskShaped, HeldFit, NewFit, PutFit, StagesFit, StoreyFit, TakeFit, TakesFit, CycleFit}
-use Rattle.bucket_clock_model.specs.declared.Maybe.{Maybe}
-use Rattle.bucket_clock_model.specs.declared.Maybe.TheVariants.{None, Some}
+use Rattle.std.specs.Prelude.{Option}
+use Rattle.std.specs.Prelude.{None, Some}
 use Rattle.bucket_clock_model.specs.declared.Waiting.{Waiting}
 use Rattle.bucket_clock_model.specs.Desk.{count_words, Desk, desk_ok, floor_of, held_ok, rule_now, stages_ok, cycle_ok, waiting, work_at}
 use Rattle.bucket_clock_model.specs.Links.{bucket_ok, bucket_put_if_ok, bucket_put_ok, bucket_take_if, bucket_take_if_ok, bucket_take_ok}
@@ -41,7 +41,7 @@ takes-means : (n : ℕ) (p : Storey) (b : Bool) (w : ℕ) (s : Floor) → Means 
 takes-means n p true w s = take-means n p w s
 takes-means n p false w s = always-so
 
-new-means : (k : Lay) (p : Storey) (d : ℕ) (x : Maybe) (s : Floor) → Means (put_if_ok k p d x s) (NewFit k p d x s)
+new-means : (k : Lay) (p : Storey) (d : ℕ) (x : Option Element) (s : Floor) → Means (put_if_ok k p d x s) (NewFit k p d x s)
 new-means k p d None s = always-so
 new-means k p d (Some x) s = means-and (means-ltb x.rank.0 k.ranks) (put-means k.nodes p (lead d x.rank.0) s)
 
@@ -83,7 +83,7 @@ module _ (k : Lay) where
   bucket-takes-means true r w = bucket-take-means r w
   bucket-takes-means false r w = always-so
 
-  bucket-new-means : (x : Maybe) (w : List ℕ) → Means (bucket_put_if_ok k x w) (BucketNewFit k x w)
+  bucket-new-means : (x : Option Element) (w : List ℕ) → Means (bucket_put_if_ok k x w) (BucketNewFit k x w)
   bucket-new-means None w = always-so
   bucket-new-means (Some x) w = bucket-put-means x.rank.0 w
 

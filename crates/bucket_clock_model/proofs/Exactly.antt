@@ -1,5 +1,5 @@
 -- Every call gives each refusal exactly for its cause, and leaves behind what the table says.
-use Rattle.laws.specs.Prelude.{BadShape, Bool, Damaged, Done, Exactly, Idle, Pop, Push, Refusal, Refused, Replace, Request, Unknown, ◌≡◌, ◌≤◌, ap, cond, cond-path, count_number, false, fine, means-leb, means-ltb, number_of, refl, runs_idle, suc, sym, true, zero, ℕ}
+use Rattle.laws.specs.Prelude.{BadShape, Bool, Damaged, Exactly, Idle, Pop, Push, Refusal, Replace, Request, ◌≡◌, ◌≤◌, ap, cond, cond-path, count_number, false, fine, means-leb, means-ltb, number_of, refl, runs_idle, suc, sym, true, zero, ℕ, Err, Ok, None}
 use Rattle.bucket_model.specs.declared.Lay.{Lay}
 use Rattle.bucket_model.specs.Prelude.{word}
 use Rattle.promise.proofs.Calls.{last-all, last-told}
@@ -55,13 +55,13 @@ module _ (k : Lay) where
   pub calm : (q : Request) (m : Desk) → CycleFit k q m → CycleFit k Idle m
   calm q m f = (tt, idle-fit k.storeys (rule_now k q m).op m f.1)
 
-  idle-runs : (q : Request) (m : Desk) → desk_ok k m ≡ true → cycle_ok k q m ≡ true → cycled k Idle m ≡ cycle_done k (ruling Done Idle) m
+  idle-runs : (q : Request) (m : Desk) → desk_ok k m ≡ true → cycle_ok k q m ≡ true → cycled k Idle m ≡ cycle_done k (ruling (Ok None) Idle) m
   unfolding cycled
   idle-runs q m e f = rw (e, (cycle-means k Idle m).holds (calm q m ((cycle-means k q m).says f))) refl
 
   module _ (q : Request) (m : Desk) where
     abbrev done : CycleOutcome
-    done = cycle_done k (ruling Done q) m
+    done = cycle_done k (ruling (Ok None) q) m
 
     -- a cycle is what its table decides
     decides : cycled k q m ≡ decided (cycle_left k m) (cycle_table k q m) done
@@ -74,8 +74,8 @@ module _ (k : Lay) where
         go : (a b : Bool) → desk_ok k m ≡ a → cycle_ok k q m ≡ b
             → cond a (cond b (cycle_done k (rule_now k q m) m) (cycle_still m Damaged)) (cycle_still m BadShape) ≡ cond a (cond b (decided (cycle_left k m) late done) (cycle_still m Damaged)) (cycle_still m BadShape)
         go true true e f =
-            same-each (λ (g : Ruling Request). cycle_done k g m) (λ (o : CycleOutcome). o) (λ n. ruling (Refused n) Idle) (cycle_left k m) late (ruling Done q) done
-            (late-each (λ n. cycle_done k (ruling (Refused n) Idle) m ≡ cycle_left k m n) (λ n i. rw i (ap (λ (o : CycleOutcome). cycle_outcome (Refused n) o.leaves o.desk) (sym (idle-runs q m e f)))) k.ranks k.nodes q (word m.words k.held)) refl
+            same-each (λ (g : Ruling Request). cycle_done k g m) (λ (o : CycleOutcome). o) (λ n. ruling (Err n) Idle) (cycle_left k m) late (ruling (Ok None) q) done
+            (late-each (λ n. cycle_done k (ruling (Err n) Idle) m ≡ cycle_left k m n) (λ n i. rw i (ap (λ (o : CycleOutcome). cycle_outcome (Err n) o.leaves o.desk) (sym (idle-runs q m e f)))) k.ranks k.nodes q (word m.words k.held)) refl
         go true false e f = refl
         go false b e f = refl
 
@@ -88,16 +88,16 @@ module _ (k : Lay) where
           number = left-number;
         }
       where
-        left-number : (n : Refusal) → said (cycle_left k m n) ≡ number_of (Refused n)
-        left-number n = cond-path said (runs_idle n) (cycle_outcome (Refused n) (cycled k Idle m).leaves (cycled k Idle m).desk) (cycle_still m n) (number_of (Refused n)) refl refl
+        left-number : (n : Refusal) → said (cycle_left k m n) ≡ number_of (Err n)
+        left-number n = cond-path said (runs_idle n) (cycle_outcome (Err n) (cycled k Idle m).leaves (cycled k Idle m).desk) (cycle_still m n) (number_of (Err n)) refl refl
 
     -- EXACTLY: each refusal of a cycle is given for its cause and for that cause only, and leaves behind what the rules say
     pub exactly-cycle : Exactly said (cycle_left k m) (cycled k q m) (ladder (cycle_table k q m) fine)
     exactly-cycle = tabled.exactly goes
 
     -- KIND: a cycle that is not refused answers that it is done
-    pub kind : said (cycled k q m) ≡ 0 → (cycled k q m).answer ≡ Done
-    kind = tabled.keeps goes (λ o. o.answer ≡ Done) refl
+    pub kind : said (cycled k q m) ≡ 0 → (cycled k q m).answer ≡ Ok None
+    kind = tabled.keeps goes (λ o. o.answer ≡ Ok None) refl
 
     -- BARRED: an element without a tag is never let in
     pub barred : Barred q (cycled k q m).answer
@@ -115,6 +115,6 @@ module _ (k : Lay) where
     unfolding clock_cleared
     exactly-clear = tabled.exactly {a = wipe_table k m} (record { told = (desk-means k m, λ _. tt); is = refl; done = refl; number = λ n. refl })
 
-    pub exactly-held : Exactly count_number Unknown (clock_held k m) (ladder (count_table k m) fine)
+    pub exactly-held : Exactly count_number Err (clock_held k m) (ladder (count_table k m) fine)
     unfolding clock_held
     exactly-held = tabled.exactly {a = count_table k m} (record { told = (desk-means k m, λ _. (means-leb (word m.words k.held) k.nodes, λ _. tt)); is = refl; done = refl; number = λ n. refl })

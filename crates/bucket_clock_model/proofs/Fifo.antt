@@ -1,5 +1,5 @@
 -- First in, first out: what leaves is what one at a time gives out, in its order.
-use Rattle.laws.specs.Prelude.{BadRank, Bool, Done, Element, Full, Idle, List, NoTag, Pop, Push, Refused, Replace, Request, [], ◌++◌, ◌∙◌, ◌∷◌, ◌≡◌, ap, cond, false, length, ltb, map, not, refl, replicate, suc, sym, true, untagged, zero, ℕ}
+use Rattle.laws.specs.Prelude.{BadRank, Bool, Element, Full, Idle, List, NoTag, Pop, Push, Replace, Request, [], ◌++◌, ◌∙◌, ◌∷◌, ◌≡◌, ap, cond, false, length, ltb, map, not, refl, replicate, suc, sym, true, untagged, zero, ℕ, Ok, None, Err}
 use mathlib.Core.List.{append_assoc}
 use Rattle.bucket_model.proofs.Promises as one
 use Rattle.bucket_model.proofs.Laws.{rank-append}
@@ -8,13 +8,13 @@ use Rattle.bucket_model.specs.Prelude.{Laid, Said, Step, answered, ask, gone, in
 use Rattle.bucket_model.specs.Plain as stores
 use Rattle.bucket_clock_model.specs.Clock.{out_of}
 use Rattle.bucket_clock_model.specs.Damage.{DeskShaped}
-use Rattle.bucket_clock_model.specs.declared.Maybe.{Maybe}
-use Rattle.bucket_clock_model.specs.declared.Maybe.TheVariants.{None, Some}
+use Rattle.std.specs.Prelude.{Option}
+use Rattle.std.specs.Prelude.{None, Some}
 use Rattle.bucket_clock_model.specs.Desk.{Desk}
 use Rattle.bucket_clock_model.specs.Promise.{InOrder, leaves_of, one_says, outs}
 use Rattle.bucket_clock_model.proofs.Promises.{answers-are}
 
-outs-append : (xs ys : List Maybe) → outs (xs ++ ys) ≡ outs xs ++ outs ys
+outs-append : (xs ys : List (Option Element)) → outs (xs ++ ys) ≡ outs xs ++ outs ys
 unfolding outs
 outs-append [] ys = refl
 outs-append (None ∷ xs) ys = outs-append xs ys
@@ -32,7 +32,7 @@ gives-out k Idle l = refl
 gives-out k (Push x) l = go (ltb x.rank.0 k.ranks) (not (untagged x)) (ltb (length l) k.nodes)
   where
     said : Bool → Bool → Bool → Said
-    said b u r = (cond {A = Step (List Element)} b (cond u (cond r (step (answered Done) (insert x l)) (step (answered (Refused Full)) l)) (step (answered (Refused NoTag)) l)) (step (answered (Refused BadRank)) l)).said
+    said b u r = (cond {A = Step (List Element)} b (cond u (cond r (step (answered (Ok None)) (insert x l)) (step (answered (Err Full)) l)) (step (answered (Err NoTag)) l)) (step (answered (Err BadRank)) l)).said
 
     go : (b u r : Bool) → went (ask (Push x)) (said b u r) ≡ outs (out_of (said b u r) ∷ [])
     go true true true = refl
@@ -44,7 +44,7 @@ gives-out k Pop (y ∷ l) = refl
 gives-out k (Replace x) l = go l (ltb x.rank.0 k.ranks) (not (untagged x))
   where
     said : List Element → Bool → Bool → Said
-    said l b u = (cond {A = Step (List Element)} b (cond u (plain_replace x l) (step (answered (Refused NoTag)) l)) (step (answered (Refused BadRank)) l)).said
+    said l b u = (cond {A = Step (List Element)} b (cond u (plain_replace x l) (step (answered (Err NoTag)) l)) (step (answered (Err BadRank)) l)).said
 
     go : (l : List Element) (b u : Bool) → went (ask (Replace x)) (said l b u) ≡ outs (out_of (said l b u) ∷ [])
     go [] true true = refl

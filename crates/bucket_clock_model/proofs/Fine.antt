@@ -4,8 +4,8 @@ use Rattle.bucket_model.proofs.Laws.{insert-length}
 use Rattle.bucket_model.specs.declared.Lay.{Lay}
 use Rattle.bucket_model.specs.Prelude.{Sorted, Storey, storey}
 use Rattle.bucket_clock_model.specs.Damage.{BucketFit, NewFit, StagesFit}
-use Rattle.bucket_clock_model.specs.declared.Maybe.{Maybe}
-use Rattle.bucket_clock_model.specs.declared.Maybe.TheVariants.{None, Some}
+use Rattle.std.specs.Prelude.{Option}
+use Rattle.std.specs.Prelude.{None, Some}
 use Rattle.bucket_clock_model.specs.declared.Waiting.{Waiting}
 use Rattle.bucket_clock_model.specs.Desk.{Desk, floor_of, waiting}
 use Rattle.bucket_clock_model.specs.Lists.{done, left, newcomer, placed, takes}
@@ -19,12 +19,12 @@ use Rattle.bucket_clock_model.proofs.Worked.{Found, found_at, inside, inside_one
 
 module _ (k : Lay) (S : ℕ) (there : k.ranks ≡ 64 ^ S) where
   -- a newcomer passes, where the list it joins has room
-  new-fit : (p : Storey) (d : ℕ) (x : Maybe) (l : List Element) (s : Floor) (g : ℕ → ℕ) → Tallied p s g → ((j : ℕ) → g j ≤ length l) → InsideOne p d x → Within S (placed x l) → length (placed x l) ≤ k.nodes → NewFit k p d x s
+  new-fit : (p : Storey) (d : ℕ) (x : Option Element) (l : List Element) (s : Floor) (g : ℕ → ℕ) → Tallied p s g → ((j : ℕ) → g j ≤ length l) → InsideOne p d x → Within S (placed x l) → length (placed x l) ≤ k.nodes → NewFit k p d x s
   new-fit p d None l s g t most one near few = tt
   new-fit p d (Some x) l s g t most one near few =
       (omega (arith, newcomer-in S x l near, there), put_fit p d s g t k.nodes (lead d x.rank.0) one (omega (arith, most (lead d x.rank.0), insert-length x l)))
 
-  pub fits : (d e : ℕ) → e + d ≡ S → (g : Waiting) (m : Desk) (P : Pipe d) (ago : ℕ → List Element) (v : List Maybe)
+  pub fits : (d e : ℕ) → e + d ≡ S → (g : Waiting) (m : Desk) (P : Pipe d) (ago : ℕ → List Element) (v : List (Option Element))
       → Sorted (ago 0) → Fit d (takes g.does) g.way (ago 0) → Shows d P ago v → ((i : ℕ) → Within S (ago i)) → Within S (done g.does (ago 0))
       → ((i : ℕ) → length (ago i) ≤ k.nodes) → length (done g.does (ago 0)) ≤ k.nodes → Stands k e d m P
       → BucketFit k (last_of d g P).does (last_of d g P).way m.words → StagesFit k e d g m

@@ -4,7 +4,7 @@ use Rattle.bucket_model.proofs.Laws.{Holds, Mine, Node, Seg, alone, chain_of, la
 use Rattle.bucket_model.specs.declared.Lay.{Lay}
 use Rattle.bucket_model.specs.Prelude.{Laid, Store, cell, head_at, lane, next_in, stored, times, word}
 use Rattle.promise.specs.Prelude.{hit}
-use Rattle.bucket_clock_model.specs.declared.Maybe.{Maybe}
+use Rattle.std.specs.Prelude.{Option}
 use Rattle.bucket_clock_model.specs.declared.Waiting.{Waiting}
 use Rattle.bucket_clock_model.specs.Desk.{Desk, work_at}
 use Rattle.bucket_clock_model.specs.Lists.{at, coming, done, left, many, newcomer, taken, takes}
@@ -54,9 +54,9 @@ times-many f (x ∷ l) = go (f x) (times-many f l)
 -- ---- through the stages
 
 module _ (k : Lay) (f : Element → Bool) where
-  flow : (e d : ℕ) (m : Desk) (P : Pipe d) (ago : ℕ → List Element) (v : List Maybe) → Stands k e d m P → Shows d P ago v → many f (ago 0) + coming f v ≡ many f (ago d) + carried f d m.records e
+  flow : (e d : ℕ) (m : Desk) (P : Pipe d) (ago : ℕ → List Element) (v : List (Option Element)) → Stands k e d m P → Shows d P ago v → many f (ago 0) + coming f v ≡ many f (ago d) + carried f d m.records e
   unfolding carried coming
-  flow e zero m P ago v st h = ap (λ (w : List Maybe). many f (ago 0) + coming f w) h.1
+  flow e zero m P ago v st h = ap (λ (w : List (Option Element)). many f (ago 0) + coming f w) h.1
   flow e (suc d) m P ago v st h =
       let q = P.0.does in
       let came : many f (ago 0) ≡ many f (done P.0.does (ago 1)) = ap (many f) h.is in
@@ -70,7 +70,7 @@ module _ (k : Lay) (f : Element → Bool) where
       )
 
 -- IN FLIGHT: nothing is lost and nothing made in the middle of any work
-pub in-machine : (k : Lay) (laid : Laid k) (m : Desk) (was : ℕ → Store) (ago : ℕ → List Element) (v : List Maybe) → Kept k laid m was ago v → (f : Element → Bool) → in_machine k m f ≡ many f (ago 0) + coming f v
+pub in-machine : (k : Lay) (laid : Laid k) (m : Desk) (was : ℕ → Store) (ago : ℕ → List Element) (v : List (Option Element)) → Kept k laid m was ago v → (f : Element → Bool) → in_machine k m f ≡ many f (ago 0) + coming f v
 in-machine k laid m was ago v x f =
     let S = k.storeys in
     let b : stored k m.words ≡ ago k.storeys = stored-but k laid m.words (was k.storeys).words x.vault.but (was k.storeys).bits (ago k.storeys) (x.vault.holds k.storeys) in

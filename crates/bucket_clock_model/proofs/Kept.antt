@@ -1,12 +1,12 @@
 -- What every cycle keeps, on the words; and what a cycle then does.
-use Rattle.laws.specs.Prelude.{All, BadPort, BadRank, BadShape, Damaged, Done, Element, Empty, Full, Idle, List, NoHeap, NoTag, Pop, Push, Refusal, Refused, Replace, Request, TooSoon, ◌<◌, ◌∙◌, ◌≡◌, ◌≤◌, ap, arith, length, number_of, refl, refusal_number, subst, suc, sym, zero, ℕ}
+use Rattle.laws.specs.Prelude.{All, BadPort, BadRank, BadShape, Damaged, Element, Empty, Full, Idle, List, NoHeap, NoTag, Pop, Push, Refusal, Replace, Request, TooSoon, ◌<◌, ◌∙◌, ◌≡◌, ◌≤◌, ap, arith, length, number_of, refl, refusal_number, subst, suc, sym, zero, ℕ, Ok, None, Err}
 use Rattle.bucket_model.proofs.Laws.{Holds, calls, other, same, shaped-after}
 use Rattle.bucket_model.specs.declared.Lay.{Lay}
 use Rattle.bucket_model.specs.Prelude.{Laid, Store, ask, called, plain, said_number, word}
 use Rattle.promise.specs.Prelude.{Ruling, decided-either, each-any, ruling}
 use Rattle.bucket_clock_model.specs.Clock.{clocked, held_after, late_table, Machine, number_at, out_of, sent}
 use Rattle.bucket_clock_model.specs.Damage.{BucketFit, DeskShaped, HeldFit, StagesFit, CycleFit}
-use Rattle.bucket_clock_model.specs.declared.Maybe.{Maybe}
+use Rattle.std.specs.Prelude.{Option}
 use Rattle.bucket_clock_model.specs.declared.Waiting.{Waiting}
 use Rattle.bucket_clock_model.specs.Desk.{Desk, held_words, rule_now, stages, cycle_run, waiting}
 use Rattle.bucket_clock_model.specs.Links.{bucket_leaves, bucket_stage}
@@ -54,14 +54,14 @@ idle-by q NoHeap = refl
 module _ (k : Lay) (q : Request) (m : Desk) (h : ℕ) (e : word m.words k.held ≡ h) where
   pub rule-sent : (rule_now k q m).op ≡ sent k q h
   rule-sent =
-      decided-either (λ n. ruling (Refused n) Idle) (λ (g : Ruling Request). g.op ≡ heeded (number_of g.answer) q) (late_table k.ranks k.nodes q (word m.words k.held)) (ruling Done q)
+      decided-either (λ n. ruling (Err n) Idle) (λ (g : Ruling Request). g.op ≡ heeded (number_of g.answer) q) (late_table k.ranks k.nodes q (word m.words k.held)) (ruling (Ok None) q)
       (each-any _ (idle-by q) (late_table k.ranks k.nodes q (word m.words k.held))) (λ c. refl)
       ∙ ap (λ (n : ℕ). heeded n q) (rule-number k q m h e)
 
 -- ---- what every cycle keeps: `was i`, `ago i` are store and list of one at a time, i cycles ago; `later` what leaves in the cycles to come
 
 module _ (k : Lay) (laid : Laid k) where
-  pub record Kept (m : Desk) (was : ℕ → Store) (ago : ℕ → List Element) (later : List Maybe) : Type 0 where
+  pub record Kept (m : Desk) (was : ℕ → Store) (ago : ℕ → List Element) (later : List (Option Element)) : Type 0 where
     pub machine : Machine k.storeys
     pub held : word m.words k.held ≡ machine.held
     pub stands : Stands k 0 k.storeys m machine.pipe
@@ -76,12 +76,12 @@ module _ (k : Lay) (laid : Laid k) where
   holds-few : (b w : List ℕ) (l : List Element) → Holds k laid b w l → length l ≤ k.nodes
   holds-few b w l h = omega (arith, h.room)
 
-  last_fits : (S : ℕ) (g : Waiting) (P : Pipe S) (was : ℕ → Store) (ago : ℕ → List Element) (v : List Maybe) (w : List ℕ) → 1 ≤ S → Linked k laid S P was ago → Shows S P ago v
+  last_fits : (S : ℕ) (g : Waiting) (P : Pipe S) (was : ℕ → Store) (ago : ℕ → List Element) (v : List (Option Element)) (w : List ℕ) → 1 ≤ S → Linked k laid S P was ago → Shows S P ago v
       → ((i : ℕ) → Holds k laid (was i).bits (was i).words (ago i)) → But k w (was S).words → BucketFit k (last_of S g P).does (last_of S g P).way w
   last_fits zero g P was ago v w s l h o c = absurd (omega arith)
   last_fits (suc d) g P was ago v w s l h o c = last_fit k laid d g P was ago v w l h o c
 
-  last-gives : (S : ℕ) (g : Waiting) (P : Pipe S) (was : ℕ → Store) (ago : ℕ → List Element) (v : List Maybe) (w : List ℕ) (q : Request) (r : ℕ) → 1 ≤ S → Shows S P ago v
+  last-gives : (S : ℕ) (g : Waiting) (P : Pipe S) (was : ℕ → Store) (ago : ℕ → List Element) (v : List (Option Element)) (w : List ℕ) (q : Request) (r : ℕ) → 1 ≤ S → Shows S P ago v
       → ((i : ℕ) → Holds k laid (was i).bits (was i).words (ago i)) → But k w (was S).words
       → bucket_leaves k (takes (last_of S g P).does) (last_of S g P).way w ≡ (piped S q r P).said
   last-gives zero g P was ago v w q r s h o c = absurd (omega arith)
@@ -89,7 +89,7 @@ module _ (k : Lay) (laid : Laid k) where
 
   -- ---- one cycle
 
-  module _ (q : Request) (m : Desk) (was : ℕ → Store) (ago : ℕ → List Element) (later : List Maybe) (x : Kept m was ago later) where
+  module _ (q : Request) (m : Desk) (was : ℕ → Store) (ago : ℕ → List Element) (later : List (Option Element)) (x : Kept m was ago later) where
     abbrev S : ℕ
     S = k.storeys
 

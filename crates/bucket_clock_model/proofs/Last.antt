@@ -8,7 +8,7 @@ use Rattle.bucket_model.specs.Prelude.{Laid, Store, asked, store}
 use Rattle.bucket_clock_model.specs.Clock.{number_at}
 use Rattle.bucket_clock_model.specs.Damage.{BucketFit}
 use Rattle.bucket_clock_model.specs.Links.{bucket_leaves, bucket_stage}
-use Rattle.bucket_clock_model.specs.declared.Maybe.{Maybe}
+use Rattle.std.specs.Prelude.{Option}
 use Rattle.bucket_clock_model.specs.declared.Waiting.{Waiting}
 use Rattle.bucket_clock_model.specs.Desk.{waiting}
 use Rattle.bucket_clock_model.specs.Lists.{takes}
@@ -57,7 +57,7 @@ module _ (k : Lay) (laid : Laid k) where
   )
 
   -- LAST: where the words are those of S cycles ago, but for held, the bucket stage leaves those of the cycle after
-  pub last-but : (d : ℕ) (g : Waiting) (P : Pipe (suc d)) (was : ℕ → Store) (ago : ℕ → List Element) (v : List Maybe) (w : List ℕ) → Linked (suc d) P was ago → Shows (suc d) P ago v
+  pub last-but : (d : ℕ) (g : Waiting) (P : Pipe (suc d)) (was : ℕ → Store) (ago : ℕ → List Element) (v : List (Option Element)) (w : List ℕ) → Linked (suc d) P was ago → Shows (suc d) P ago v
       → ((i : ℕ) → Holds k laid (was i).bits (was i).words (ago i)) → But k w (was (suc d)).words → But k (bucket_stage k (last_of (suc d) g P).does (last_of (suc d) g P).way w) (was d).words
   last-but zero g P was ago v w l h o c =
       subst (λ (s : Store). But k (bucket_stage k P.0.does P.0.way w) s.words) (sym l.0)
@@ -65,13 +65,13 @@ module _ (k : Lay) (laid : Laid k) where
   last-but (suc d) g P was ago v w l h o c = last-but d (waiting P.0.does P.0.way) P.1 (λ i. was (suc i)) (λ i. ago (suc i)) h.older w l.2 h.rest (λ i. o (suc i)) c
 
   -- .. its tests do not fail
-  pub last_fit : (d : ℕ) (g : Waiting) (P : Pipe (suc d)) (was : ℕ → Store) (ago : ℕ → List Element) (v : List Maybe) (w : List ℕ) → Linked (suc d) P was ago → Shows (suc d) P ago v
+  pub last_fit : (d : ℕ) (g : Waiting) (P : Pipe (suc d)) (was : ℕ → Store) (ago : ℕ → List Element) (v : List (Option Element)) (w : List ℕ) → Linked (suc d) P was ago → Shows (suc d) P ago v
       → ((i : ℕ) → Holds k laid (was i).bits (was i).words (ago i)) → But k w (was (suc d)).words → BucketFit k (last_of (suc d) g P).does (last_of (suc d) g P).way w
   last_fit zero g P was ago v w l h o c = stage-fit k laid (was 1).bits (was 1).words (ago 1) (o 1) w c P.0.does P.0.way l.1 h.fit
   last_fit (suc d) g P was ago v w l h o c = last_fit d (waiting P.0.does P.0.way) P.1 (λ i. was (suc i)) (λ i. ago (suc i)) h.older w l.2 h.rest (λ i. o (suc i)) c
 
   -- .. and what leaves the pipeline stands in the words
-  pub last-leaves : (d : ℕ) (g : Waiting) (P : Pipe (suc d)) (was : ℕ → Store) (ago : ℕ → List Element) (v : List Maybe) (w : List ℕ) (q : Request) (r : ℕ) → Shows (suc d) P ago v
+  pub last-leaves : (d : ℕ) (g : Waiting) (P : Pipe (suc d)) (was : ℕ → Store) (ago : ℕ → List Element) (v : List (Option Element)) (w : List ℕ) (q : Request) (r : ℕ) → Shows (suc d) P ago v
       → ((i : ℕ) → Holds k laid (was i).bits (was i).words (ago i)) → But k w (was (suc d)).words → bucket_leaves k (takes (last_of (suc d) g P).does) (last_of (suc d) g P).way w ≡ (piped (suc d) q r P).said
   unfolding piped
   last-leaves zero g P was ago v w q r h o c =

@@ -4,8 +4,8 @@ use Rattle.bucket_model.proofs.Laws.{other, write-length, write-other}
 use Rattle.bucket_model.specs.Prelude.{Laid, cell, head_at, joined_words, link_at, lowest_in, next_at, room_of, room_with, tail_at, taken_words, word, write}
 use Rattle.bucket_model.specs.declared.Lay.{Lay}
 use Rattle.bucket_clock_model.specs.Damage.{BucketFit, BucketNewFit, BucketPutFit, BucketTakeFit, BucketTakesFit}
-use Rattle.bucket_clock_model.specs.declared.Maybe.{Maybe}
-use Rattle.bucket_clock_model.specs.declared.Maybe.TheVariants.{None, Some}
+use Rattle.std.specs.Prelude.{Option}
+use Rattle.std.specs.Prelude.{None, Some}
 use Rattle.bucket_clock_model.specs.Links.{bucket_put, bucket_put_if, bucket_stage, bucket_take, bucket_take_if, put_writes, take_writes}
 use Rattle.bucket_clock_model.specs.Lists.{newcomer, takes}
 use Rattle.bucket_clock_model.proofs.StageReads.{put-fit-low, put_same, take-fit-low, take_same}
@@ -100,7 +100,7 @@ module _ (k : Lay) (laid : Laid k) (a : ℕ) (behind : k.held ≤ a) where
   takes-past true r w f = take_past r w f
   takes-past false r w f = refl
 
-  new-past : (x : Maybe) (w : List ℕ) → BucketNewFit k x w → word (bucket_put_if k x w) a ≡ word w a
+  new-past : (x : Option Element) (w : List ℕ) → BucketNewFit k x w → word (bucket_put_if k x w) a ≡ word w a
   new-past None w f = refl
   new-past (Some x) w f = put-past x w f
 
@@ -116,7 +116,7 @@ unfolding bucket_take
 take_long k true r w = write-length w (take_writes k w r)
 take_long k false r w = refl
 
-put-long : (k : Lay) (x : Maybe) (w : List ℕ) → length (bucket_put_if k x w) ≡ length w
+put-long : (k : Lay) (x : Option Element) (w : List ℕ) → length (bucket_put_if k x w) ≡ length w
 unfolding bucket_put
 put-long k None w = refl
 put-long k (Some x) w = write-length w (put_writes k w x)

@@ -1,9 +1,9 @@
 -- A cycle keeps the lengths, whatever stands in the machine.
-use Rattle.laws.specs.Prelude.{Bool, Idle, List, Pop, Push, Replace, Request, ◌∙◌, ◌≡◌, false, length, length-set, pred, refl, suc, true, zero, ℕ}
+use Rattle.laws.specs.Prelude.{Element, Bool, Idle, List, Pop, Push, Replace, Request, ◌∙◌, ◌≡◌, false, length, length-set, pred, refl, suc, true, zero, ℕ}
 use Rattle.bucket_model.specs.declared.Lay.{Lay}
 use Rattle.bucket_model.specs.Prelude.{Storey, storey, word}
-use Rattle.bucket_clock_model.specs.declared.Maybe.{Maybe}
-use Rattle.bucket_clock_model.specs.declared.Maybe.TheVariants.{None, Some}
+use Rattle.std.specs.Prelude.{Option}
+use Rattle.std.specs.Prelude.{None, Some}
 use Rattle.bucket_clock_model.specs.declared.Waiting.{Waiting}
 use Rattle.bucket_clock_model.specs.Desk.{Desk, floor_of, handed, held_words, stage_done, stages, cycle_run, waiting, work_at}
 use Rattle.bucket_clock_model.specs.Lists.{newcomer, takes}
@@ -34,7 +34,7 @@ module _ (p : Storey) where
   takes-broad true w s = record { bits = off-long _ (pred (word s.counts _)) s.bits; counts = length-set s.counts _ _ }
   takes-broad false w s = record { bits = refl; counts = refl }
 
-  puts-broad : (d : ℕ) (x : Maybe) (s : Floor) → Broad s (put_if p d x s)
+  puts-broad : (d : ℕ) (x : Option Element) (s : Floor) → Broad s (put_if p d x s)
   unfolding storey_put
   puts-broad d None s = record { bits = refl; counts = refl }
   puts-broad d (Some x) s = record { bits = on-long _ (word s.counts _) s.bits; counts = length-set s.counts _ _ }

@@ -1,14 +1,14 @@
 -- ONE STEP: in every cycle each stage does its own work on the words as they stood at the cycle's start, and writes its own words and the record below
 -- it, no others. Whatever stands in the machine, where no test fails.
-use Rattle.laws.specs.Prelude.{BadShape, Bool, Damaged, Idle, List, Pop, Push, Replace, Request, ◌%◌, ◌*◌, ◌+◌, ◌-◌, ◌/◌, ◌<◌, ◌^◌, ◌∙◌, ◌≡◌, ◌≤◌, ◌⊎◌, ap, arith, cond, cond_both, false, inl, inr, length, length-set, pred, refl, set, subst, suc, sym, true, zero, ℕ, ℕ_discrete}
+use Rattle.laws.specs.Prelude.{Element, BadShape, Bool, Damaged, Idle, List, Pop, Push, Replace, Request, ◌%◌, ◌*◌, ◌+◌, ◌-◌, ◌/◌, ◌<◌, ◌^◌, ◌∙◌, ◌≡◌, ◌≤◌, ◌⊎◌, ap, arith, cond, cond_both, false, inl, inr, length, length-set, pred, refl, set, subst, suc, sym, true, zero, ℕ, ℕ_discrete}
 use lib.Count.{count_trailing_zeros}
 use Rattle.bitmap.specs.Bits as word64
 use Rattle.bucket_model.proofs.Laws.{other}
 use Rattle.bucket_model.specs.declared.Lay.{Lay}
 use Rattle.bucket_model.specs.Prelude.{Laid, Storey, bit_words, store_words, storey, word, words_of}
 use Rattle.bucket_clock_model.specs.Damage.{NewFit, StagesFit, StoreyFit, TakesFit}
-use Rattle.bucket_clock_model.specs.declared.Maybe.{Maybe}
-use Rattle.bucket_clock_model.specs.declared.Maybe.TheVariants.{None, Some}
+use Rattle.std.specs.Prelude.{Option}
+use Rattle.std.specs.Prelude.{None, Some}
 use Rattle.bucket_clock_model.specs.declared.Waiting.{Waiting}
 use Rattle.bucket_clock_model.specs.Desk.{count_words, Desk, desk_ok, floor_of, handed, held_words, rule_now, stage_done, stages, cycle_done, cycled, cycle_ok, CycleOutcome, cycle_run, cycle_still, waiting, work_at}
 use Rattle.bucket_clock_model.specs.Links.{bucket_leaves, bucket_stage}
@@ -94,7 +94,7 @@ module _ (p : Storey) (s u : Floor) (o : Onward p s u) where
 staged-same : (p : Storey) (d : ℕ) (q : Request) (w : ℕ) (s u : Floor) → Onward p s u → Onward p (staged p d q w s) (staged p d q w u)
 staged-same p d q w s u o = go (newcomer q)
   where
-    go : (x : Maybe) → Onward p (put_if p d x (take_if p (takes q) w s)) (put_if p d x (take_if p (takes q) w u))
+    go : (x : Option Element) → Onward p (put_if p d x (take_if p (takes q) w s)) (put_if p d x (take_if p (takes q) w u))
     go None = takes_same p s u o (takes q) w
     go (Some x) = put_same p (take_if p (takes q) w s) (take_if p (takes q) w u) (takes_same p s u o (takes q) w) (lead d x.rank.0)
 
@@ -176,7 +176,7 @@ module _ (k : Lay) (laid : Laid k) where
           (subst (λ (x : ℕ). x < 64 * 64 ^ e) (way_same (storey k.bits e) s u o w) (way_in k.nodes (storey k.bits e) w s wide g))
       took false g = record { bits = λ i o. refl; counts = λ i o. refl }
 
-      new : (x : Maybe) → NewFit k (storey k.bits e) d x (take_if (storey k.bits e) (takes q) w s) → Stood (storey k.bits e) u (take_if (storey k.bits e) (takes q) w u)
+      new : (x : Option Element) → NewFit k (storey k.bits e) d x (take_if (storey k.bits e) (takes q) w s) → Stood (storey k.bits e) u (take_if (storey k.bits e) (takes q) w u)
           → Stood (storey k.bits e) u (put_if (storey k.bits e) d x (take_if (storey k.bits e) (takes q) w u))
       new None g a = a
       new (Some x) g a =

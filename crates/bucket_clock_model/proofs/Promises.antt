@@ -1,5 +1,5 @@
 -- THE PROMISES (1) to (5), from a machine cleared on slices long enough, whatever was in them, over any list of cycles.
-use Rattle.laws.specs.Prelude.{Count, Element, Held, Idle, List, Request, [], ◌*◌, ◌++◌, ◌+◌, ◌-◌, ◌<◌, ◌^◌, ◌∙◌, ◌∷◌, ◌≡◌, ◌≤◌, ap, arith, dec_lt, le-leb, length, map, not-suc-le-zero, refl, replicate, subst, suc, sym, zero, ℕ, ℕ_discrete}
+use Rattle.laws.specs.Prelude.{Element, Idle, List, Request, [], ◌*◌, ◌++◌, ◌+◌, ◌-◌, ◌<◌, ◌^◌, ◌∙◌, ◌∷◌, ◌≡◌, ◌≤◌, ap, arith, dec_lt, le-leb, length, map, not-suc-le-zero, refl, replicate, subst, suc, sym, zero, ℕ, ℕ_discrete, Result, Refusal, Ok}
 use native.Mathlib.Decide.{dec_le}
 use Rattle.bucket_model.proofs.Promises as one
 use Rattle.bucket_model.proofs.Laws.{alone, calls, stored_is}
@@ -9,8 +9,8 @@ use Rattle.bucket_model.specs.Plain as stores
 use Rattle.promise.specs.Prelude.{leaves}
 use Rattle.bucket_clock_model.specs.Clock.{history, out_of}
 use Rattle.bucket_clock_model.specs.Damage.{DeskShaped}
-use Rattle.bucket_clock_model.specs.declared.Maybe.{Maybe}
-use Rattle.bucket_clock_model.specs.declared.Maybe.TheVariants.{None}
+use Rattle.std.specs.Prelude.{Option}
+use Rattle.std.specs.Prelude.{None}
 use Rattle.bucket_clock_model.specs.Desk.{clock_cleared, clock_held, Desk, floor_of, no_work, cycled, cycling, work_at}
 use Rattle.bucket_clock_model.specs.Pipe.{below, counts_at, Pipe}
 use Rattle.bucket_clock_model.specs.Promise.{Answers, BucketsAre, HeldExact, one_store, ran, rested, Settled, StoreyIs, Undamaged}
@@ -35,7 +35,7 @@ module _ (k : Lay) (laid : Laid k) where
   stands_at e (suc d) m P h zero n l q = let p : n ≡ e = omega arith in rw p h.0
   stands_at e (suc d) m P h (suc i) n l q = stands_at (suc e) d m P.1 h.2 i n (omega arith) (omega arith)
 
-  module _ (m : Desk) (was : ℕ → Store) (ago : ℕ → List Element) (v : List Maybe) (x : Kept k laid m was ago v) where
+  module _ (m : Desk) (was : ℕ → Store) (ago : ℕ → List Element) (v : List (Option Element)) (x : Kept k laid m was ago v) where
     abbrev S : ℕ
     S = k.storeys
 
@@ -61,8 +61,8 @@ module _ (k : Lay) (laid : Laid k) where
     kept-held : word m.words k.held ≡ word (was 0).words k.held
     kept-held = x.held ∙ x.vault.runs.held ∙ sym (x.vault.holds 0).held
 
-    count_in : Said → Count
-    count_in (answered a) = Held 0
+    count_in : Said → Result ℕ Refusal
+    count_in (answered a) = Ok 0
     count_in (counted c) = c
 
     held-exact : clock_held k m ≡ held_count k (was 0).bits (was 0).words
@@ -70,7 +70,7 @@ module _ (k : Lay) (laid : Laid k) where
     held-exact =
         let few : word m.words k.held ≤ k.nodes = omega (arith, kept-held, (x.vault.holds 0).held, (x.vault.holds 0).room) in
         rw ((desk-means k m).holds x.shaped, le-leb (word m.words k.held) k.nodes few)
-        (ap Held (x.held ∙ x.vault.runs.held) ∙ sym (ap count_in (calls k laid (was 0) (ago 0) (x.vault.holds 0) held).alike))
+        (ap Ok (x.held ∙ x.vault.runs.held) ∙ sym (ap count_in (calls k laid (was 0) (ago 0) (x.vault.holds 0) held).alike))
 
   -- ---- through idle cycles the store of one at a time stands
 
@@ -107,7 +107,7 @@ module _ (k : Lay) (laid : Laid k) where
     abbrev kept : (qs : List Request) → Kept k laid (ran k m qs) (store_history k laid qs (λ i. s)) (history k qs (λ i. [])) (through qs).later
     kept qs = (through qs).kept
 
-    nones : (n : ℕ) → length (replicate n None) ≡ n
+    nones : (n : ℕ) → length {A = Option Element} (replicate n None) ≡ n
     nones zero = refl
     nones (suc n) = ap suc (nones n)
 

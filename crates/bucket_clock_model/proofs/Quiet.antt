@@ -3,7 +3,7 @@ use Rattle.laws.specs.Prelude.{Element, Idle, List, Request, ◌+◌, ◌<◌, �
 use Rattle.bucket_model.specs.declared.Lay.{Lay}
 use Rattle.bucket_model.specs.Prelude.{Laid, Store, Storey, storey}
 use Rattle.promise.specs.Prelude.{leaves}
-use Rattle.bucket_clock_model.specs.declared.Maybe.{Maybe}
+use Rattle.std.specs.Prelude.{Option}
 use Rattle.bucket_clock_model.specs.declared.Waiting.{Waiting}
 use Rattle.bucket_clock_model.specs.Desk.{Desk, handed, no_work, stage_done, stages, cycled, cycling, CycleOutcome, cycle_run, waiting, work_at}
 use Rattle.bucket_clock_model.specs.Lists.{takes}
@@ -45,13 +45,13 @@ module _ (k : Lay) (laid : Laid k) where
   abbrev pub Quiet : ℕ → Desk → Type 0
   Quiet n m = (i : ℕ) → i < n → i < k.storeys → work_at m.records i ≡ no_work
 
-  idle-quiet : (n : ℕ) (m : Desk) (was : ℕ → Store) (ago : ℕ → List Element) (v : List Maybe) → Kept k laid m was ago v → Quiet n m → Quiet (suc n) (cycled k Idle m).desk
+  idle-quiet : (n : ℕ) (m : Desk) (was : ℕ → Store) (ago : ℕ → List Element) (v : List (Option Element)) → Kept k laid m was ago v → Quiet n m → Quiet (suc n) (cycled k Idle m).desk
   unfolding cycle_run
   idle-quiet n m was ago v x q i a b =
       ap (λ (o : CycleOutcome). work_at o.desk.records i) (cycle-is k laid Idle m was ago v x)
       ∙ quiet-stages k k.storeys 0 (waiting Idle 0) m (omega (arith, x.long)) refl n (λ j c d e. ap (λ (u : Waiting). u.does) (q j (omega arith) (omega arith))) i (omega arith) (omega arith) (omega arith)
 
-  pub idles-quiet : (n j : ℕ) (m : Desk) (was : ℕ → Store) (ago : ℕ → List Element) (v : List Maybe) → Kept k laid m was ago v → Quiet j m → Quiet (j + n) (leaves (cycling k) (replicate n Idle) m)
+  pub idles-quiet : (n j : ℕ) (m : Desk) (was : ℕ → Store) (ago : ℕ → List Element) (v : List (Option Element)) → Kept k laid m was ago v → Quiet j m → Quiet (j + n) (leaves (cycling k) (replicate n Idle) m)
   unfolding leaves
   idles-quiet zero j m was ago v x q i a b = q i (omega arith) b
   idles-quiet (suc n) j m was ago v x q i a b =

@@ -1,11 +1,11 @@
 -- The bucket stage, at a request that is accepted, leaves the words that the call of one at a time leaves, but for the held count.
-use Rattle.laws.specs.Prelude.{Answer, BadRank, Bool, Done, Element, Empty, Full, Idle, List, NoTag, Pop, Push, Refused, Replace, Request, [], ◌<◌, ◌∙◌, ◌∷◌, ◌≡◌, ◌≤◌, ap, arith, cond, eqb, false, length, ltb, ltb-true, number_of, refl, subst, sym, true, untagged, ℕ}
+use Rattle.laws.specs.Prelude.{Answer, BadRank, Bool, Element, Empty, Full, Idle, List, NoTag, Pop, Push, Replace, Request, [], ◌<◌, ◌∙◌, ◌∷◌, ◌≡◌, ◌≤◌, ap, arith, cond, eqb, false, length, ltb, ltb-true, number_of, refl, subst, sym, true, untagged, ℕ, Ok, None, Err}
 use Rattle.bucket_model.proofs.Laws.{Holds, Popped, alone, low-is, pop-is, pop-means, pop-way, pops, push-is, pushes, room-again, swap_is, whole}
 use Rattle.bucket_model.specs.Prelude.{JoinFit, Laid, Outcome, PopFit, Store, asked, cell, given, head_at, load_in, loaded, lowest_in, lowest_of, lowest_rank, store, taken_bits, taken_words, word}
 use Rattle.bucket_model.specs.declared.Lay.{Lay}
 use Rattle.bucket_clock_model.specs.Clock.{number_at}
 use Rattle.bucket_clock_model.specs.Damage.{BucketFit, BucketPutFit, BucketTakeFit}
-use Rattle.bucket_clock_model.specs.declared.Maybe.TheVariants.{Some}
+use Rattle.std.specs.Prelude.{Some}
 use Rattle.bucket_clock_model.specs.Lists.{first, taken, takes}
 use Rattle.bucket_clock_model.specs.Links.{bucket_gives, bucket_leaves, bucket_put, bucket_stage, bucket_take}
 use Rattle.bucket_clock_model.specs.Pipe.{Fit, lead}
@@ -25,12 +25,12 @@ record Taken (k : Lay) (x : Element) : Type 0 where
   within : x.rank.0 < k.ranks
   tagged : untagged x ≡ false
 
-taken-by : (k : Lay) (x : Element) (b u : Bool) (a : Answer) → ltb x.rank.0 k.ranks ≡ b → untagged x ≡ u → number_of (cond b (cond u (Refused NoTag) a) (Refused BadRank)) ≡ 0 → Taken k x × (number_of a ≡ 0)
+taken-by : (k : Lay) (x : Element) (b u : Bool) (a : Answer) → ltb x.rank.0 k.ranks ≡ b → untagged x ≡ u → number_of (cond b (cond u (Err NoTag) a) (Err BadRank)) ≡ 0 → Taken k x × (number_of a ≡ 0)
 taken-by k x true false a p q e = (record { within = ltb-true x.rank.0 k.ranks p; tagged = q }, e)
 taken-by k x true true a p q e = absurd (omega arith)
 taken-by k x false u a p q e = absurd (omega arith)
 
-room_by : (a b : ℕ) (t : Bool) → ltb a b ≡ t → number_of (cond t Done (Refused Full)) ≡ 0 → a < b
+room_by : (a b : ℕ) (t : Bool) → ltb a b ≡ t → number_of (cond t (Ok None) (Err Full)) ≡ 0 → a < b
 room_by a b true p e = ltb-true a b p
 room_by a b false p e = absurd (omega arith)
 
@@ -56,7 +56,7 @@ module _ (k : Lay) (laid : Laid k) (b v : List ℕ) (l : List Element) (h : Hold
 
   push-fit : (x : Element) → number_at k.ranks k.nodes (Push x) (length l) ≡ 0 → BucketPutFit k x.rank.0 w
   push-fit x e =
-      let t = taken-by k x (ltb x.rank.0 k.ranks) (untagged x) (cond (ltb (length l) k.nodes) Done (Refused Full)) refl refl e in
+      let t = taken-by k x (ltb x.rank.0 k.ranks) (untagged x) (cond (ltb (length l) k.nodes) (Ok None) (Err Full)) refl refl e in
       let room : length l < k.nodes = room_by (length l) k.nodes (ltb (length l) k.nodes) refl t.1 in
       let f : word v k.held ≡ k.nodes → ⊥ = λ z. omega (arith, h.held) in
       put-fit-but k laid w v c x.rank.0 (put-fits k laid b v l h x.rank.0 t.0.within f (pushes k (alone k laid) 0 b v l h x t.0.within (word v k.held) (omega (arith, h.held)) f).fit)
@@ -64,7 +64,7 @@ module _ (k : Lay) (laid : Laid k) (b v : List ℕ) (l : List Element) (h : Hold
   push-but : (x : Element) → number_at k.ranks k.nodes (Push x) (length l) ≡ 0 → But k (bucket_put k x w) (asked k (Push x) s).words
   unfolding asked
   push-but x e =
-      let t = taken-by k x (ltb x.rank.0 k.ranks) (untagged x) (cond (ltb (length l) k.nodes) Done (Refused Full)) refl refl e in
+      let t = taken-by k x (ltb x.rank.0 k.ranks) (untagged x) (cond (ltb (length l) k.nodes) (Ok None) (Err Full)) refl refl e in
       let room : length l < k.nodes = room_by (length l) k.nodes (ltb (length l) k.nodes) refl t.1 in
       let f : word v k.held ≡ k.nodes → ⊥ = λ z. omega (arith, h.held) in
       let p = push-is k laid s l h x t.0.within t.0.tagged f (pushes k (alone k laid) 0 b v l h x t.0.within (word v k.held) (omega (arith, h.held)) f) in
@@ -96,7 +96,7 @@ module _ (k : Lay) (laid : Laid k) (b v : List ℕ) (l : List Element) (h : Hold
 
     swap-fit : (x : Element) → number_at k.ranks k.nodes (Replace x) (length l) ≡ 0 → BucketPutFit k x.rank.0 (bucket_take k r w)
     swap-fit x e =
-        let t = taken-by k x (ltb x.rank.0 k.ranks) (untagged x) (cond (eqb (length l) 0) (Refused Empty) Done) refl refl e in
+        let t = taken-by k x (ltb x.rank.0 k.ranks) (untagged x) (cond (eqb (length l) 0) (Err Empty) (Ok None)) refl refl e in
         let B = taken_bits k b (lowest_of k b v) in
         let W = taken_words k v (lowest_of k b v) in
         let room = room-again k laid s l h some-held found.0 found.1 found.2 x t.0.within in
@@ -110,7 +110,7 @@ module _ (k : Lay) (laid : Laid k) (b v : List ℕ) (l : List Element) (h : Hold
     swap-but : (x : Element) → number_at k.ranks k.nodes (Replace x) (length l) ≡ 0 → But k (bucket_put k x (bucket_take k r w)) (asked k (Replace x) s).words
     unfolding asked
     swap-but x e =
-        let t = taken-by k x (ltb x.rank.0 k.ranks) (untagged x) (cond (eqb (length l) 0) (Refused Empty) Done) refl refl e in
+        let t = taken-by k x (ltb x.rank.0 k.ranks) (untagged x) (cond (eqb (length l) 0) (Err Empty) (Ok None)) refl refl e in
         let B = taken_bits k b (lowest_of k b v) in
         let W = taken_words k v (lowest_of k b v) in
         let u = pushes k (alone k laid) 0 B W found.1 found.2.after x t.0.within (word W k.held) (omega (arith, found.2.after.held)) (room-again k laid s l h some-held found.0 found.1 found.2 x t.0.within) in

@@ -2,8 +2,8 @@
 use Rattle.laws.specs.Prelude.{All, Bool, Element, List, Request, [], ◌*◌, ◌+◌, ◌/◌, ◌<◌, ◌∙◌, ◌∷◌, ◌≡◌, ◌≤◌, ap, arith, eq-eqb, eqb, false, is-upd, ne_eqb, pred, refl, suc, sym, true, upd, zero, ℕ, ℕ_discrete}
 use Rattle.bucket_model.specs.Prelude.{Sorted}
 use Rattle.promise.specs.Prelude.{hit}
-use Rattle.bucket_clock_model.specs.declared.Maybe.{Maybe}
-use Rattle.bucket_clock_model.specs.declared.Maybe.TheVariants.{None, Some}
+use Rattle.std.specs.Prelude.{Option}
+use Rattle.std.specs.Prelude.{None, Some}
 use Rattle.bucket_clock_model.specs.Lists.{done, left, many, newcomer, placed, takes}
 use Rattle.bucket_clock_model.specs.Pipe.{below, counted, fewer, Fit, found, lead, lowest_from, more, under}
 use Rattle.bucket_clock_model.proofs.Counts.{placed-many}
@@ -74,7 +74,7 @@ below-take d w false c l s h f j = h j
 below-take d w true c [] s h f j = absurd f
 below-take d w true c (x ∷ l) s h f j = rw (lowest-digit d w c x l s h f) (one_less c (below d l) (lead d x.rank.0) h j)
 
-below_put : (d : ℕ) (x : Maybe) (c : ℕ → ℕ) (l : List Element) → ((j : ℕ) → c j ≡ below d l j) → (j : ℕ) → more d x c j ≡ below d (placed x l) j
+below_put : (d : ℕ) (x : Option Element) (c : ℕ → ℕ) (l : List Element) → ((j : ℕ) → c j ≡ below d l j) → (j : ℕ) → more d x c j ≡ below d (placed x l) j
 below_put d None c l h j = h j
 below_put d (Some x) c l h j = omega (arith, one_more c (lead d x.rank.0) j, h j, placed-many (under d j) (Some x) l)
 

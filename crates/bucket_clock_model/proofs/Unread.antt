@@ -1,5 +1,5 @@
 -- UNREAD: words past the shape and records past S are not read. Two machines that are the same within the shape answer alike, and are the same within the shape afterwards.
-use Rattle.laws.specs.Prelude.{Bool, Damaged, Done, Idle, List, Pop, Push, Refused, Replace, Request, [], ◌%◌, ◌*◌, ◌+◌, ◌-◌, ◌/◌, ◌<◌, ◌^◌, ◌∙◌, ◌∷◌, ◌≡◌, ◌≤◌, ap, arith, cond, dec_lt, false, length, length-set, means-no, pred, refl, set, subst, suc, sym, true, zero, ℕ, ℕ_discrete}
+use Rattle.laws.specs.Prelude.{Element, Bool, Damaged, Idle, List, Pop, Push, Replace, Request, [], ◌%◌, ◌*◌, ◌+◌, ◌-◌, ◌/◌, ◌<◌, ◌^◌, ◌∙◌, ◌∷◌, ◌≡◌, ◌≤◌, ap, arith, cond, dec_lt, false, length, length-set, means-no, pred, refl, set, subst, suc, sym, true, zero, ℕ, ℕ_discrete, Ok, None, Err}
 use lib.Count.{count_trailing_zeros}
 use Rattle.bitmap.specs.Bits.{bit_at}
 use Rattle.bucket_model.proofs.Laws.{other, same}
@@ -8,8 +8,8 @@ use Rattle.bucket_model.specs.declared.Lay.{Lay}
 use Rattle.promise.specs.Prelude.{Ruling, decided, ruling}
 use Rattle.bucket_clock_model.specs.Clock.{late_table}
 use Rattle.bucket_clock_model.specs.Damage.{BucketFit, BucketNewFit, BucketTakesFit, DeskShaped, HeldFit, NewFit, StagesFit, StoreyFit, TakesFit, CycleFit}
-use Rattle.bucket_clock_model.specs.declared.Maybe.{Maybe}
-use Rattle.bucket_clock_model.specs.declared.Maybe.TheVariants.{None, Some}
+use Rattle.std.specs.Prelude.{Option}
+use Rattle.std.specs.Prelude.{None, Some}
 use Rattle.bucket_clock_model.specs.declared.Waiting.{Waiting}
 use Rattle.bucket_clock_model.specs.Desk.{count_words, Desk, floor_of, held_words, rule_now, stages, cycle_done, cycled, cycle_ok, cycle_run, cycle_still, waiting, work_at}
 use Rattle.bucket_clock_model.specs.Links.{bucket_leaves, bucket_put, bucket_put_if, bucket_stage, bucket_take, bucket_take_if, put_writes, take_writes}
@@ -88,7 +88,7 @@ module _ (k : Lay) (laid : Laid k) where
           }
 
       -- a newcomer
-      new-fit : (x : Maybe) → NewFit k p d x s → NewFit k p d x t
+      new-fit : (x : Option Element) → NewFit k p d x s → NewFit k p d x t
       new-fit None f = tt
       new-fit (Some x) f =
           let j : ℕ = lead d x.rank.0 in
@@ -97,7 +97,7 @@ module _ (k : Lay) (laid : Laid k) where
           let b : bit_no s.bits p (lead d x.rank.0) ≡ bit_no t.bits p (lead d x.rank.0) = ap (λ (w : ℕ). bit_at w (lead d x.rank.0 % 64)) (word_same (lead d x.rank.0 / 64) (omega arith)) in
           (f.0, record { agrees = record { to = λ z. sym b ∙ f.1.agrees.to (c ∙ z); from = λ z. sym c ∙ f.1.agrees.from (b ∙ z) }; room = subst (λ (y : ℕ). y < k.nodes) c f.1.room })
 
-      new-pair : (x : Maybe) → NewFit k p d x s → Pair (put_if p d x s) (put_if p d x t)
+      new-pair : (x : Option Element) → NewFit k p d x s → Pair (put_if p d x s) (put_if p d x t)
       new-pair None f = P
       new-pair (Some x) f = put-pair (lead d x.rank.0) (rank-inside e d k.storeys x.rank.0 e_s (omega (arith, f.0, laid.ranks)))
 
@@ -146,11 +146,11 @@ module _ (k : Lay) (laid : Laid k) where
     out-under true r f = subst (λ (ps : List (ℕ × ℕ)). Under (store_words k) (write w (take_writes k w r)) (write v ps)) (take_same k laid w v low r f.within) (under-write (store_words k) (take_writes k w r) w v U)
     out-under false r f = U
 
-    in-fit : (x : Maybe) → BucketNewFit k x w → BucketNewFit k x v
+    in-fit : (x : Option Element) → BucketNewFit k x w → BucketNewFit k x v
     in-fit None f = tt
     in-fit (Some x) f = put-fit-low k laid v w back x.rank.0 f
 
-    in-under : (x : Maybe) → BucketNewFit k x w → Under (store_words k) (bucket_put_if k x w) (bucket_put_if k x v)
+    in-under : (x : Option Element) → BucketNewFit k x w → Under (store_words k) (bucket_put_if k x w) (bucket_put_if k x v)
     unfolding bucket_put
     in-under None f = U
     in-under (Some x) f = subst (λ (ps : List (ℕ × ℕ)). Under (store_words k) (write w (put_writes k w x)) (write v ps)) (put_same k laid w v low x f.within) (under-write (store_words k) (put_writes k w x) w v U)
@@ -262,7 +262,7 @@ module _ (k : Lay) (laid : Laid k) where
         }
 
     rule-same : (m n : Desk) → Twin m n → rule_now k q m ≡ rule_now k q n
-    rule-same m n T = ap (λ (h : ℕ). decided (λ r. ruling (Refused r) Idle) (late_table k.ranks k.nodes q h) (ruling Done q)) (T.words.at k.held (omega arith))
+    rule-same m n T = ap (λ (h : ℕ). decided (λ r. ruling (Err r) Idle) (late_table k.ranks k.nodes q h) (ruling (Ok None) q)) (T.words.at k.held (omega arith))
 
     held-fit : (q : Request) (m n : Desk) → Twin m n → HeldFit k q m.words → HeldFit k q n.words
     held-fit Idle m n T f = tt

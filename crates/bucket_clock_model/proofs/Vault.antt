@@ -1,5 +1,5 @@
 -- The stores of one at a time, cycle by cycle: behind the storeys heads, tails, nodes and free link are, word for word, those of S cycles ago.
-use Rattle.laws.specs.Prelude.{Answer, Done, Element, Idle, List, Out, Pop, Push, Refusal, Refused, Replace, Request, [], ◌++◌, ◌+◌, ◌∙◌, ◌∷◌, ◌≡◌, ◌≤◌, ap, arith, left_behind, length, map, number_of, refl, subst, suc, sym, zero, ℕ}
+use Rattle.laws.specs.Prelude.{Answer, Element, Idle, List, Pop, Push, Refusal, Replace, Request, [], ◌++◌, ◌+◌, ◌∙◌, ◌∷◌, ◌≡◌, ◌≤◌, ap, arith, left_behind, length, map, number_of, refl, subst, suc, sym, zero, ℕ, Ok, None, Some, Err}
 use Rattle.bucket_model.proofs.Exactly.{exactly-pop, exactly-push, exactly-replace}
 use Rattle.bucket_model.proofs.Laws.{Holds, calls}
 use Rattle.bucket_model.specs.Prelude.{Laid, Outcome, Store, ask, asked, called, plain, refused, said_number, store}
@@ -7,7 +7,7 @@ use Rattle.bucket_model.specs.declared.Lay.{Lay}
 use Rattle.bucket_model.specs.Plain as stores
 use Rattle.bucket_clock_model.specs.Clock.{clocked, Machine, number_at, out_of, Runs, sent}
 use Rattle.bucket_clock_model.specs.Links.{bucket_stage}
-use Rattle.bucket_clock_model.specs.declared.Maybe.{Maybe}
+use Rattle.std.specs.Prelude.{Option}
 use Rattle.bucket_clock_model.specs.declared.Waiting.{Waiting}
 use Rattle.bucket_clock_model.specs.Lists.{heeded, moved}
 use Rattle.bucket_clock_model.specs.Pipe.{after, fresh_pipe, Pipe, Shows}
@@ -21,13 +21,13 @@ heeded-fine R n h (suc m) q e = refl
 
 module _ (k : Lay) (laid : Laid k) where
   -- a refused call leaves the store
-  keeps : (b w : List ℕ) (o : Outcome) (m : ℕ) → number_of o.answer ≡ suc m → ((r : Refusal) → number_of o.answer ≡ number_of (Refused r) → o ≡ refused r b w) → store o.bits o.words ≡ store b w
+  keeps : (b w : List ℕ) (o : Outcome) (m : ℕ) → number_of o.answer ≡ suc m → ((r : Refusal) → number_of o.answer ≡ number_of (Err r) → o ≡ refused r b w) → store o.bits o.words ≡ store b w
   keeps b w o m e f = go o.answer refl
     where
       go : (a : Answer) → o.answer ≡ a → store o.bits o.words ≡ store b w
-      go Done p = absurd (omega (arith, ap number_of p))
-      go (Out x) p = absurd (omega (arith, ap number_of p))
-      go (Refused r) p = ap (λ (o : Outcome). store o.bits o.words) (f r (ap number_of p))
+      go (Ok None) p = absurd (omega (arith, ap number_of p))
+      go (Ok (Some x)) p = absurd (omega (arith, ap number_of p))
+      go (Err r) p = ap (λ (o : Outcome). store o.bits o.words) (f r (ap number_of p))
 
   refused-keeps : (q : Request) (s : Store) (m : ℕ) → number_of (asked k q s).answer ≡ suc m → next_store k q s ≡ s
   unfolding asked
@@ -42,19 +42,19 @@ module _ (k : Lay) (laid : Laid k) where
   sent-store q s zero e = refl
   sent-store q s (suc m) e = sym (refused-keeps q s m e)
 
-  pub record Vaulted (m : Machine k.storeys) (w : List ℕ) (was : ℕ → Store) (ago : ℕ → List Element) (later : List Maybe) : Type 0 where
+  pub record Vaulted (m : Machine k.storeys) (w : List ℕ) (was : ℕ → Store) (ago : ℕ → List Element) (later : List (Option Element)) : Type 0 where
     pub runs : Runs k m ago later
     pub linked : Linked k laid k.storeys m.pipe was ago
     pub holds : (i : ℕ) → Holds k laid (was i).bits (was i).words (ago i)
     pub but : But k w (was k.storeys).words
 
-  last-stage : (S : ℕ) (g : Waiting) (P : Pipe S) (was : ℕ → Store) (ago : ℕ → List Element) (v : List Maybe) (w : List ℕ) (s : Store) → 1 ≤ S → Linked k laid S P was ago → Shows S P ago v
+  last-stage : (S : ℕ) (g : Waiting) (P : Pipe S) (was : ℕ → Store) (ago : ℕ → List Element) (v : List (Option Element)) (w : List ℕ) (s : Store) → 1 ≤ S → Linked k laid S P was ago → Shows S P ago v
       → ((i : ℕ) → Holds k laid (was i).bits (was i).words (ago i)) → But k w (was S).words → But k (bucket_stage k (last_of S g P).does (last_of S g P).way w) (after_store s was S).words
   last-stage zero g P was ago v w s h l z o c = absurd (omega arith)
   last-stage (suc d) g P was ago v w s h l z o c = last-but k laid d g P was ago v w l z o c
 
   -- VAULT: one cycle
-  pub vaults : (q : Request) (g : Waiting) (m : Machine k.storeys) (w : List ℕ) (was : ℕ → Store) (ago : ℕ → List Element) (later : List Maybe) → Vaulted m w was ago later
+  pub vaults : (q : Request) (g : Waiting) (m : Machine k.storeys) (w : List ℕ) (was : ℕ → Store) (ago : ℕ → List Element) (later : List (Option Element)) → Vaulted m w was ago later
       → Vaulted (clocked k q m).next (bucket_stage k (last_of k.storeys g m.pipe).does (last_of k.storeys g m.pipe).way w) (after_store (called k (ask q) (was 0)).next was) (after (plain k (ask q) (ago 0)).next ago) (moved later (out_of (plain k (ask q) (ago 0)).said))
   unfolding clocked called
   vaults q g m w was ago later x =

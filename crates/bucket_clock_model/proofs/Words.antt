@@ -4,7 +4,7 @@ use lib.Count.{count_trailing_zeros}
 use Rattle.bucket_model.proofs.Laws.{Down, Tells, Tower, nz, nz-one, nz-zero, other, same, storey-down, storey-ext, storey-less, storey-more, storey-none, storey-off, tells-same, tower-ext, up}
 use Rattle.bucket_model.specs.Prelude.{Storey, storeys_from, word, words_of}
 use Rattle.promise.specs.Prelude.{hit}
-use Rattle.bucket_clock_model.specs.declared.Maybe.TheVariants.{Some}
+use Rattle.std.specs.Prelude.{Some}
 use Rattle.bucket_clock_model.specs.Lists.{at, many}
 use Rattle.bucket_clock_model.specs.Pipe.{below, lead, lowest_from, under}
 use Rattle.bucket_clock_model.specs.Words.{bit_off, bit_on, count_at, Floor, storey_put, storey_take, way_below}

@@ -5,8 +5,8 @@ use Rattle.bucket_model.specs.Prelude.{Sorted, Storey, bit_no, insert, storey, w
 use Rattle.bucket_model.specs.declared.Lay.{Lay}
 use Rattle.promise.specs.Prelude.{Step}
 use Rattle.bucket_clock_model.specs.Damage.{PutFit, TakesFit}
-use Rattle.bucket_clock_model.specs.declared.Maybe.{Maybe}
-use Rattle.bucket_clock_model.specs.declared.Maybe.TheVariants.{None, Some}
+use Rattle.std.specs.Prelude.{Option}
+use Rattle.std.specs.Prelude.{None, Some}
 use Rattle.bucket_clock_model.specs.declared.Waiting.{Waiting}
 use Rattle.bucket_clock_model.specs.Desk.{Desk, floor_of, handed, no_work, stage_done, stages, waiting, work_at}
 use Rattle.bucket_clock_model.specs.Links.{bucket_leaves, bucket_stage}
@@ -24,7 +24,7 @@ module _ (p : Storey) (d : ℕ) where
   abbrev pub Inside : List Element → Type 0
   Inside l = All (λ x. lead d x.rank.0 < 64 * p.words) l
 
-  abbrev pub InsideOne : Maybe → Type 0
+  abbrev pub InsideOne : Option Element → Type 0
   InsideOne None = Unit {0}
   InsideOne (Some x) = lead d x.rank.0 < 64 * p.words
 
@@ -64,7 +64,7 @@ module _ (p : Storey) (d : ℕ) where
         }
 
     -- what is put
-    pub put-stage : (x : Maybe) → InsideOne x → Tallied p (put_if p d x s) (more d x g)
+    pub put-stage : (x : Option Element) → InsideOne x → Tallied p (put_if p d x s) (more d x g)
     put-stage None h = t
     put-stage (Some x) h = put-tallied p s g t (lead d x.rank.0) h
 
@@ -75,7 +75,7 @@ module _ (p : Storey) (d : ℕ) where
         let b : bit_no s.bits p j ≡ nz (g j) = t.tells.bit j h in
         record { agrees = record { to = λ z. b ∙ ap nz (sym e ∙ z); from = λ z. e ∙ nz-zero (g j) (sym b ∙ z) }; room = rw e room }
 
-  pub put-away : (x : Maybe) → InsideOne x → (s : Floor) (q : Storey) (f : ℕ → ℕ) → Apart q p → Tallied q s f → Tallied q (put_if p d x s) f
+  pub put-away : (x : Option Element) → InsideOne x → (s : Floor) (q : Storey) (f : ℕ → ℕ) → Apart q p → Tallied q s f → Tallied q (put_if p d x s) f
   put-away None h s q f far u = u
   put-away (Some x) h s q f far u = put-off q p far s f u (lead d x.rank.0) h
 
@@ -119,7 +119,7 @@ newcomer-in S x (y ∷ l) a = go (ltb x.rank.0 y.rank.0) a (newcomer-in S x l)
     go true a ih = a.0
     go false a ih = ih a.1
 
-pub inside_one : (o e d S : ℕ) (x : Maybe) (l : List Element) → e + suc d ≡ S → Within S (placed x l) → InsideOne (storey o e) d x
+pub inside_one : (o e d S : ℕ) (x : Option Element) (l : List Element) → e + suc d ≡ S → Within S (placed x l) → InsideOne (storey o e) d x
 inside_one o e d S None l q a = tt
 inside_one o e d S (Some x) l q a = rank-inside e d S x.rank.0 q (newcomer-in S x l a)
 
@@ -148,7 +148,7 @@ module _ (k : Lay) where
       (off e P.0.counts (omega arith) h.0, same e (omega arith) ∙ h.1, stands-off (suc e) d m u P.1 (λ n f l. off n f (omega arith)) (λ n l. same n (omega arith)) h.2)
 
   -- the stages from storey e on work as the pipeline does, and those above stand; r is what they come to
-  pub record Does (e d : ℕ) (r : Step Maybe Desk) (g : Waiting) (m : Desk) (P : Pipe d) : Type 0 where
+  pub record Does (e d : ℕ) (r : Step (Option Element) Desk) (g : Waiting) (m : Desk) (P : Pipe d) : Type 0 where
     pub leaves : r.said ≡ bucket_leaves k (takes (last_of d g P).does) (last_of d g P).way m.words
     pub words : r.next.words ≡ bucket_stage k (last_of d g P).does (last_of d g P).way m.words
     pub stands : Stands e d r.next (piped d g.does g.way P).next
@@ -157,7 +157,7 @@ module _ (k : Lay) where
     pub long : length r.next.records ≡ length m.records
 
   module _ (S : ℕ) where
-    pub works : (d e : ℕ) → e + d ≡ S → (g : Waiting) (m : Desk) (P : Pipe d) (ago : ℕ → List Element) (v : List Maybe)
+    pub works : (d e : ℕ) → e + d ≡ S → (g : Waiting) (m : Desk) (P : Pipe d) (ago : ℕ → List Element) (v : List (Option Element))
         → Sorted (ago 0) → Fit d (takes g.does) g.way (ago 0) → Shows d P ago v → ((i : ℕ) → Within S (ago i)) → Within S (done g.does (ago 0)) → S ≤ length m.records → Stands e d m P
         → Does e d (stages k e d g m) g m P
     unfolding stages piped

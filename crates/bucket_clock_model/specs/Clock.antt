@@ -1,11 +1,11 @@
 -- The bucket queue by clock cycles, over its pipeline: what a request is answered, and what leaves. These are definitions.
 use Rattle.std.specs.Prelude.{◌<◌, ◌∷◌, ◌≡◌}
-use Rattle.laws.specs.Prelude.{All, Answer, BadRank, Done, Element, Idle, List, Out, Pop, Push, Refused, Replace, Request, [], length, ltb, number_of, pred, suc, ℕ}
+use Rattle.laws.specs.Prelude.{All, Answer, BadRank, Element, Idle, List, Pop, Push, Replace, Request, [], length, ltb, number_of, pred, suc, ℕ, Ok, None, Some, Err}
 use Rattle.bucket_model.specs.declared.Lay.{Lay}
 use Rattle.bucket_model.specs.Prelude.{Said, Sorted, answered, ask, counted, plain}
 use Rattle.promise.specs.Prelude.{Step, Table, decided, last_table, needs, step}
-use Rattle.bucket_clock_model.specs.declared.Maybe.{Maybe}
-use Rattle.bucket_clock_model.specs.declared.Maybe.TheVariants.{None, Some}
+use Rattle.std.specs.Prelude.{Option}
+use Rattle.std.specs.Prelude.{None, Some}
 use Rattle.bucket_clock_model.specs.Lists.{heeded}
 use Rattle.bucket_clock_model.specs.Pipe.{after, fresh_pipe, Pipe, piped, Shows}
 
@@ -25,7 +25,7 @@ abbrev pub late_table : ℕ → ℕ → Request → ℕ → Table
 late_table ranks n q h = rank_table ranks q (last_table q h n)
 
 abbrev pub number_at : ℕ → ℕ → Request → ℕ → ℕ
-number_at ranks n q h = number_of (decided Refused (late_table ranks n q h) Done)
+number_at ranks n q h = number_of (decided Err (late_table ranks n q h) (Ok None))
 
 -- "Held changes in the request's own cycle (push + 1, pop - 1, replace not)"
 abbrev pub held_after : Request → ℕ → ℕ
@@ -37,7 +37,7 @@ held_after (Replace x) h = h
 -- "An answer has two parts: the number of this cycle's request, and what leaves in this cycle, if anything"
 pub record Heard : Type 0 where
   pub number : ℕ
-  pub leaves : Maybe
+  pub leaves : Option Element
 
 -- the request that goes into stage 1: "After 4, 5, 6 and 7 the cycle runs as an idle one"
 abbrev pub sent : (k : Lay) → Request → ℕ → Request
@@ -53,18 +53,18 @@ abbrev pub fresh_machine : (d : ℕ) → Machine d
 fresh_machine d = record { held = 0; pipe = fresh_pipe d }
 
 -- what a call of one at a time gives out
-abbrev pub out_answer : Answer → Maybe
-out_answer Done = None
-out_answer (Out x) = Some x
-out_answer (Refused r) = None
+abbrev pub out_answer : Answer → Option Element
+out_answer (Ok None) = None
+out_answer (Ok (Some x)) = Some x
+out_answer (Err r) = None
 
-abbrev pub out_of : Said → Maybe
+abbrev pub out_of : Said → Option Element
 out_of (answered a) = out_answer a
 out_of (counted c) = None
 
 -- ---- what every cycle keeps: `ago i` is the list of one at a time, i cycles ago; `later` what leaves in the cycles to come
 
-pub record Runs (k : Lay) (m : Machine k.storeys) (ago : ℕ → List Element) (later : List Maybe) : Type 0 where
+pub record Runs (k : Lay) (m : Machine k.storeys) (ago : ℕ → List Element) (later : List (Option Element)) : Type 0 where
   pub held : m.held ≡ length (ago 0)
   pub sorted : Sorted (ago 0)
   pub ranked : All (λ x. x.rank.0 < k.ranks) (ago 0)

@@ -1,10 +1,10 @@
 -- "A cycle is damaged exactly if a test fails": what D1 to D5 ask, in facts. These are definitions.
 use Rattle.std.specs.Prelude.{◌+◌, ◌<◌, ◌≡◌, ◌≤◌}
-use Rattle.laws.specs.Prelude.{Bool, Idle, Iff, List, Pop, Push, Replace, Request, false, length, suc, true, zero, ℕ}
+use Rattle.laws.specs.Prelude.{Element, Bool, Idle, Iff, List, Pop, Push, Replace, Request, false, length, suc, true, zero, ℕ}
 use Rattle.bucket_model.specs.Prelude.{Shaped, Storey, bit_no, head_at, next_of, storey, tail_at, word}
 use Rattle.bucket_model.specs.declared.Lay.{Lay}
-use Rattle.bucket_clock_model.specs.declared.Maybe.{Maybe}
-use Rattle.bucket_clock_model.specs.declared.Maybe.TheVariants.{None, Some}
+use Rattle.std.specs.Prelude.{Option}
+use Rattle.std.specs.Prelude.{None, Some}
 use Rattle.bucket_clock_model.specs.declared.Waiting.{Waiting}
 use Rattle.bucket_clock_model.specs.Desk.{count_words, Desk, floor_of, rule_now, waiting, work_at}
 use Rattle.bucket_clock_model.specs.Links.{bucket_take_if}
@@ -34,7 +34,7 @@ TakesFit n p true w s = TakeFit n p w s
 TakesFit n p false w s = Unit {0}
 
 -- .. "x's rank is at least R"
-abbrev pub NewFit : Lay → Storey → ℕ → Maybe → Floor → Type 0
+abbrev pub NewFit : Lay → Storey → ℕ → Option Element → Floor → Type 0
 NewFit k p d None s = Unit {0}
 NewFit k p d (Some x) s = (x.rank.0 < k.ranks) × PutFit k.nodes p (lead d x.rank.0) s
 
@@ -71,7 +71,7 @@ abbrev pub BucketTakesFit : Lay → Bool → ℕ → List ℕ → Type 0
 BucketTakesFit k true r w = BucketTakeFit k r w
 BucketTakesFit k false r w = Unit {0}
 
-abbrev pub BucketNewFit : Lay → Maybe → List ℕ → Type 0
+abbrev pub BucketNewFit : Lay → Option Element → List ℕ → Type 0
 BucketNewFit k None w = Unit {0}
 BucketNewFit k (Some x) w = BucketPutFit k x.rank.0 w
 

@@ -2,13 +2,13 @@
 -- they leave.
 -- These are definitions, and the contracts cite them.
 use Rattle.std.specs.Prelude.{◌&&◌, ◌*◌}
-use Rattle.laws.specs.Prelude.{Answer, BadShape, Bool, Count, Damaged, Done, Held, Idle, List, Pop, Push, Refusal, Refused, Replace, Request, Unknown, cond, get_or, leb, length, pred, replicate, set, suc, true, zero, ℕ}
+use Rattle.laws.specs.Prelude.{Element, Answer, BadShape, Bool, Damaged, Idle, List, Pop, Push, Refusal, Replace, Request, cond, get_or, leb, length, pred, replicate, set, suc, true, zero, ℕ, Result, Ok, Err, None}
 use Rattle.bucket_model.specs.Prelude.{Storey, bit_words, blank_word, fill, shape_ok, store_words, storey, word}
 use Rattle.bucket_model.specs.declared.Lay.{Lay}
 use Rattle.promise.specs.Prelude.{Ruling, Step, decided, ruling, step}
 use Rattle.bucket_clock_model.specs.Clock.{late_table}
-use Rattle.bucket_clock_model.specs.declared.Maybe.{Maybe}
-use Rattle.bucket_clock_model.specs.declared.Maybe.TheVariants.{None}
+use Rattle.std.specs.Prelude.{Option}
+use Rattle.std.specs.Prelude.{None}
 use Rattle.bucket_clock_model.specs.declared.Waiting.{Waiting}
 use Rattle.bucket_clock_model.specs.Links.{bucket_leaves, bucket_ok, bucket_stage}
 use Rattle.bucket_clock_model.specs.Lists.{takes}
@@ -65,7 +65,7 @@ last_done k g m = desk m.bits m.counts (bucket_stage k g.does g.way m.words) m.r
 
 -- "every stage does one operation at most": storey e works at g, each of the d - 1 below it, and the buckets, at what was pending above. A stage's words
 -- are its own, so it finds them as they stood at the cycle's start
-unfoldable pub stages : Lay → (e d : ℕ) → Waiting → Desk → Step Maybe Desk
+unfoldable pub stages : Lay → (e d : ℕ) → Waiting → Desk → Step (Option Element) Desk
 stages k e zero g m = step (bucket_leaves k (takes g.does) g.way m.words) (last_done k g m)
 stages k e (suc d) g m = stages k (suc e) d (work_at m.records e) (stage_done k e d g m)
 
@@ -77,7 +77,7 @@ held_words k Pop w = set w k.held (pred (word w k.held))
 held_words k (Replace x) w = w
 
 -- "stage 1 the request, each other stage its record's"
-unfoldable pub cycle_run : Lay → Request → Desk → Step Maybe Desk
+unfoldable pub cycle_run : Lay → Request → Desk → Step (Option Element) Desk
 cycle_run k q m =
     let r = stages k 0 k.storeys (waiting q 0) m in
     step r.said (desk r.next.bits r.next.counts (held_words k q r.next.words) r.next.records)
@@ -98,7 +98,7 @@ held_ok k (Replace x) w = leb (word w k.held) k.nodes
 
 -- "4, 7, then 5 (push, held is N) or 6 (pop and replace, held is 0)": what the request comes to. "After 4, 5, 6 and 7 the cycle runs as an idle one"
 abbrev pub rule_now : Lay → Request → Desk → Ruling Request
-rule_now k q m = decided (λ n. ruling (Refused n) Idle) (late_table k.ranks k.nodes q (word m.words k.held)) (ruling Done q)
+rule_now k q m = decided (λ n. ruling (Err n) Idle) (late_table k.ranks k.nodes q (word m.words k.held)) (ruling (Ok None) q)
 
 -- "2 of what is pending and of held, 4, 7, then 5 .. or 6 .., then 2 of stage 1": stage 1 tests what it is handed, and that is nothing after 4 to 7
 unfoldable pub cycle_ok : Lay → Request → Desk → Bool
@@ -117,15 +117,15 @@ desk_ok k m = shape_ok k (length m.bits) (length m.words) && leb (count_words k)
 -- "An answer has two parts: the number of this cycle's request, and what leaves in this cycle, if anything"
 pub record CycleOutcome : Type 0 where
   pub answer : Answer
-  pub leaves : Maybe
+  pub leaves : Option Element
   pub desk : Desk
 
-abbrev pub cycle_outcome : Answer → Maybe → Desk → CycleOutcome
+abbrev pub cycle_outcome : Answer → Option Element → Desk → CycleOutcome
 cycle_outcome a x m = record { answer = a; leaves = x; desk = m }
 
 -- "after 1 and 2 nothing moves and nothing leaves"
 abbrev pub cycle_still : Desk → Refusal → CycleOutcome
-cycle_still m n = cycle_outcome (Refused n) None m
+cycle_still m n = cycle_outcome (Err n) None m
 
 -- what is ruled is done
 abbrev pub cycle_done : Lay → Ruling Request → Desk → CycleOutcome
@@ -140,16 +140,16 @@ abbrev pub wiped : Lay → Desk → Desk
 wiped k m = desk (fill (λ j. 0) (bit_words k) m.bits) (fill (λ j. 0) (count_words k) m.counts) (fill (blank_word k) (store_words k) m.words) fresh
 
 unfoldable pub clock_cleared : Lay → Desk → CycleOutcome
-clock_cleared k m = cond (desk_ok k m) (cycle_outcome Done None (wiped k m)) (cycle_still m BadShape)
+clock_cleared k m = cond (desk_ok k m) (cycle_outcome (Ok None) None (wiped k m)) (cycle_still m BadShape)
 
 -- "Held is the held word, exact in the middle of any work; it tests that word alone"
-unfoldable pub clock_held : Lay → Desk → Count
-clock_held k m = cond (desk_ok k m) (cond (leb (word m.words k.held) k.nodes) (Held (word m.words k.held)) (Unknown Damaged)) (Unknown BadShape)
+unfoldable pub clock_held : Lay → Desk → Result ℕ Refusal
+clock_held k m = cond (desk_ok k m) (cond (leb (word m.words k.held) k.nodes) (Ok (word m.words k.held)) (Err Damaged)) (Err BadShape)
 
 -- the queue as a step function, for lists of cycles
 pub record Heard : Type 0 where
   pub number : Answer
-  pub leaves : Maybe
+  pub leaves : Option Element
 
 abbrev pub cycling : Lay → Request → Desk → Step Heard Desk
 cycling k q m = let o = cycled k q m in step (record { number = o.answer; leaves = o.leaves }) o.desk

@@ -3,8 +3,8 @@ use Rattle.std.specs.Prelude.{◌&&◌, ◌++◌, ◌∷◌}
 use Rattle.laws.specs.Prelude.{Bool, Bool·beq, Element, List, Request, [], eqb, false, leb, ltb, not, true, ℕ}
 use Rattle.bucket_model.specs.Prelude.{head_at, link_at, load_in, load_of, load_writes, loaded, lowest_in, next_at, next_of, no_load, tail_at, tail_left, word, write}
 use Rattle.bucket_model.specs.declared.Lay.{Lay}
-use Rattle.bucket_clock_model.specs.declared.Maybe.{Maybe}
-use Rattle.bucket_clock_model.specs.declared.Maybe.TheVariants.{None, Some}
+use Rattle.std.specs.Prelude.{Option}
+use Rattle.std.specs.Prelude.{None, Some}
 use Rattle.bucket_clock_model.specs.Lists.{newcomer, takes}
 
 -- "the head of the rank that the way names leaves; its node is freed, as one at a time"
@@ -33,7 +33,7 @@ abbrev pub bucket_take_if : Lay → Bool → ℕ → List ℕ → List ℕ
 bucket_take_if k true r w = bucket_take k r w
 bucket_take_if k false r w = w
 
-abbrev pub bucket_put_if : Lay → Maybe → List ℕ → List ℕ
+abbrev pub bucket_put_if : Lay → Option Element → List ℕ → List ℕ
 bucket_put_if k None w = w
 bucket_put_if k (Some x) w = bucket_put k x w
 
@@ -44,7 +44,7 @@ bucket_stage k q r w = bucket_put_if k (newcomer q) (bucket_take_if k (takes q) 
 abbrev pub bucket_gives : Lay → ℕ → List ℕ → Element
 bucket_gives k r w = loaded r (load_in k.stem w (word w (head_at k r)))
 
-abbrev pub bucket_leaves : Lay → Bool → ℕ → List ℕ → Maybe
+abbrev pub bucket_leaves : Lay → Bool → ℕ → List ℕ → Option Element
 bucket_leaves k true r w = Some (bucket_gives k r w)
 bucket_leaves k false r w = None
 
@@ -70,7 +70,7 @@ abbrev pub bucket_take_if_ok : Lay → Bool → ℕ → List ℕ → Bool
 bucket_take_if_ok k true r w = bucket_take_ok k r w
 bucket_take_if_ok k false r w = true
 
-abbrev pub bucket_put_if_ok : Lay → Maybe → List ℕ → Bool
+abbrev pub bucket_put_if_ok : Lay → Option Element → List ℕ → Bool
 bucket_put_if_ok k None w = true
 bucket_put_if_ok k (Some x) w = bucket_put_ok k x.rank.0 w
 

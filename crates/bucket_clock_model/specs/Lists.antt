@@ -3,12 +3,12 @@ use Rattle.std.specs.Prelude.{◌++◌, ◌+◌, ◌∷◌}
 use Rattle.laws.specs.Prelude.{Bool, Element, Idle, List, Pop, Push, Replace, Request, [], false, suc, true, zero, ℕ}
 use Rattle.bucket_model.specs.Prelude.{insert}
 use Rattle.promise.specs.Prelude.{hit}
-use Rattle.bucket_clock_model.specs.declared.Maybe.{Maybe}
-use Rattle.bucket_clock_model.specs.declared.Maybe.TheVariants.{None, Some}
+use Rattle.std.specs.Prelude.{Option}
+use Rattle.std.specs.Prelude.{None, Some}
 
 -- ---- lists
 
-abbrev pub first : List Element → Maybe
+abbrev pub first : List Element → Option Element
 first [] = None
 first (x ∷ l) = Some x
 
@@ -16,7 +16,7 @@ abbrev pub rest : List Element → List Element
 rest [] = []
 rest (x ∷ l) = l
 
-abbrev pub last : List Element → Maybe
+abbrev pub last : List Element → Option Element
 last [] = None
 last (x ∷ []) = Some x
 last (x ∷ y ∷ l) = last (y ∷ l)
@@ -27,12 +27,12 @@ but_last (x ∷ []) = []
 but_last (x ∷ y ∷ l) = x ∷ but_last (y ∷ l)
 
 -- behind all of its rank or a lower one
-abbrev pub placed : Maybe → List Element → List Element
+abbrev pub placed : Option Element → List Element → List Element
 placed None l = l
 placed (Some x) l = insert x l
 
 -- the first of a list, where it is taken, and what is left
-abbrev pub taken : Bool → List Element → Maybe
+abbrev pub taken : Bool → List Element → Option Element
 taken true l = first l
 taken false l = None
 
@@ -42,17 +42,17 @@ left false l = l
 
 -- ---- the way: what is asked for joins it at its end, and what stands first arrives
 
-abbrev pub arrives : List Maybe → Maybe → Maybe
+abbrev pub arrives : List (Option Element) → Option Element → Option Element
 arrives [] z = z
 arrives (y ∷ w) z = y
 
-abbrev pub moved : List Maybe → Maybe → List Maybe
+abbrev pub moved : List (Option Element) → Option Element → List (Option Element)
 moved [] z = []
 moved (y ∷ w) z = w ++ z ∷ []
 
 -- ---- counting
 
-abbrev pub at : (Element → Bool) → Maybe → ℕ
+abbrev pub at : (Element → Bool) → Option Element → ℕ
 at f None = 0
 at f (Some x) = hit (f x)
 
@@ -61,7 +61,7 @@ many f [] = 0
 many f (x ∷ l) = hit (f x) + many f l
 
 -- of those on the way
-unfoldable pub coming : (Element → Bool) → List Maybe → ℕ
+unfoldable pub coming : (Element → Bool) → List (Option Element) → ℕ
 coming f [] = 0
 coming f (y ∷ w) = at f y + coming f w
 
@@ -73,7 +73,7 @@ takes (Push x) = false
 takes Pop = true
 takes (Replace x) = true
 
-abbrev pub newcomer : Request → Maybe
+abbrev pub newcomer : Request → Option Element
 newcomer Idle = None
 newcomer (Push x) = Some x
 newcomer Pop = None

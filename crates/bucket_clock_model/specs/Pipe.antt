@@ -4,8 +4,8 @@ use Rattle.std.specs.Prelude.{◌*◌, ◌++◌, ◌/◌, ◌∷◌, ◌≡◌}
 use Rattle.laws.specs.Prelude.{Bool, Element, Idle, List, Request, [], cond, eqb, false, pred, suc, true, upd, zero, ℕ}
 use Rattle.bucket_model.specs.Prelude.{Sorted, of_rank}
 use Rattle.promise.specs.Prelude.{Step, step}
-use Rattle.bucket_clock_model.specs.declared.Maybe.{Maybe}
-use Rattle.bucket_clock_model.specs.declared.Maybe.TheVariants.{None, Some}
+use Rattle.std.specs.Prelude.{Option}
+use Rattle.std.specs.Prelude.{None, Some}
 use Rattle.bucket_clock_model.specs.Lists.{done, left, many, newcomer, taken, takes}
 
 -- a rank without its last d digits: the number of its bit in the storey above d others
@@ -38,7 +38,7 @@ fewer true m c = upd c m (pred (c m))
 fewer false m c = c
 
 -- "the count of x's bit rises by one"
-abbrev pub more : ℕ → Maybe → (ℕ → ℕ) → ℕ → ℕ
+abbrev pub more : ℕ → Option Element → (ℕ → ℕ) → ℕ → ℕ
 more d None c = c
 more d (Some x) c = upd c (lead d x.rank.0) (suc (c (lead d x.rank.0)))
 
@@ -54,7 +54,7 @@ headless true w b = upd b w (left true (b w))
 headless false w b = b
 
 -- "joined behind the tail of its rank"
-abbrev pub joined : Maybe → (ℕ → List Element) → ℕ → List Element
+abbrev pub joined : Option Element → (ℕ → List Element) → ℕ → List Element
 joined None b = b
 joined (Some x) b = upd b x.rank.0 (b x.rank.0 ++ x ∷ [])
 
@@ -75,7 +75,7 @@ Pipe zero = ℕ → List Element
 Pipe (suc d) = Stage × Pipe d
 
 -- a cycle: every stage does one operation, on what it finds at the cycle's start; what leaves, leaves the buckets
-unfoldable pub piped : (d : ℕ) → Request → ℕ → Pipe d → Step Maybe (Pipe d)
+unfoldable pub piped : (d : ℕ) → Request → ℕ → Pipe d → Step (Option Element) (Pipe d)
 piped zero q w b = step (taken (takes q) (b w)) (joined (newcomer q) (headless (takes q) w b))
 piped (suc d) q w s =
     let g = s.0 in
@@ -97,9 +97,9 @@ Fit d true w (x ∷ l) = lead d x.rank.0 ≡ w
 
 -- a storey that has counted l: the stages below it have `before`, and what is pending makes l of that. What leaves later is in `later`, with
 -- `older` of it asked for before
-pub record Staged (d : ℕ) (g : Stage) (P : List Maybe → Type 0) (l before : List Element) (later : List Maybe) : Type 0 where
+pub record Staged (d : ℕ) (g : Stage) (P : List (Option Element) → Type 0) (l before : List Element) (later : List (Option Element)) : Type 0 where
   pub counts : (j : ℕ) → g.counts j ≡ below d l j
-  pub older : List Maybe
+  pub older : List (Option Element)
   pub sorted : Sorted before
   pub fit : Fit d (takes g.does) g.way before
   pub is : l ≡ done g.does before
@@ -107,7 +107,7 @@ pub record Staged (d : ℕ) (g : Stage) (P : List Maybe → Type 0) (l before : 
   pub rest : P older
 
 -- STAGED: where `ago i` is the list of i cycles ago, stage i + 1 has done all but the last i operations
-abbrev pub Shows : (d : ℕ) → Pipe d → (ℕ → List Element) → List Maybe → Type 0
+abbrev pub Shows : (d : ℕ) → Pipe d → (ℕ → List Element) → List (Option Element) → Type 0
 Shows zero b ago later = ((r : ℕ) → b r ≡ of_rank r (ago 0)) × (later ≡ [])
 Shows (suc d) s ago later = Staged d s.0 (Shows d s.1 (λ i. ago (suc i))) (ago 0) (ago 1) later
 

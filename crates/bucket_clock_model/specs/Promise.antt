@@ -2,15 +2,15 @@
 -- against the bucket queue of one
 -- operation at a time. These are definitions.
 use Rattle.std.specs.Prelude.{◌*◌, ◌++◌, ◌+◌, ◌-◌, ◌<◌, ◌^◌, ◌∷◌, ◌≡◌, ◌≤◌}
-use Rattle.laws.specs.Prelude.{BadShape, Bool, Damaged, Element, Idle, List, Refusal, Refused, Request, [], cond, leb, length, map, number_of, replicate, runs_idle, suc, zero, ℕ}
+use Rattle.laws.specs.Prelude.{BadShape, Bool, Damaged, Element, Idle, List, Refusal, Request, [], cond, leb, length, map, number_of, replicate, runs_idle, suc, zero, ℕ, Err}
 use Rattle.bucket_model.specs.Prelude.{Store, ask, bit_words, held_count, of_rank, queue, said_number, says, start, store_words, stored, storey, times, word, words_of}
 use Rattle.bucket_model.specs.declared.Lay.{Lay}
 use Rattle.bucket_model.specs.Plain as stores
 use Rattle.promise.specs.Prelude.{Table, answers, ends, leaves, needs}
 use Rattle.bucket_clock_model.specs.Clock.{late_table, out_of}
 use Rattle.bucket_clock_model.specs.Damage.{DeskShaped, CycleFit}
-use Rattle.bucket_clock_model.specs.declared.Maybe.{Maybe}
-use Rattle.bucket_clock_model.specs.declared.Maybe.TheVariants.{None, Some}
+use Rattle.std.specs.Prelude.{Option}
+use Rattle.std.specs.Prelude.{None, Some}
 use Rattle.bucket_clock_model.specs.declared.Waiting.{Waiting}
 use Rattle.bucket_clock_model.specs.Desk.{clock_cleared, clock_held, count_words, Desk, desk_ok, floor_of, fresh, handed, no_work, cycled, cycling, cycle_ok, cycle_outcome, CycleOutcome, cycle_still, work_at}
 use Rattle.bucket_clock_model.specs.Links.{bucket_stage}
@@ -22,7 +22,7 @@ use Rattle.bucket_clock_model.specs.Words.{count_at, staged}
 
 -- "After 4, 5, 6 and 7 the cycle runs as an idle one, and what leaves, leaves; after 1 and 2 nothing moves and nothing leaves"
 abbrev pub cycle_left : Lay → Desk → Refusal → CycleOutcome
-cycle_left k m n = let o = cycled k Idle m in cond (runs_idle n) (cycle_outcome (Refused n) o.leaves o.desk) (cycle_still m n)
+cycle_left k m n = let o = cycled k Idle m in cond (runs_idle n) (cycle_outcome (Err n) o.leaves o.desk) (cycle_still m n)
 
 -- "Refusals in this order: 1, 2 .., 4, 7, then 5 (push, held is N) or 6 (pop and replace, held is 0)"
 abbrev pub cycle_table : Lay → Request → Desk → Table
@@ -51,7 +51,7 @@ module _ (k : Lay) (m : Desk) where
   abbrev pub numbers_of : List Request → List ℕ
   numbers_of qs = map (λ h. number_of h.number) (answers (cycling k) qs (clock_cleared k m).desk)
 
-  abbrev pub leaves_of : List Request → List Maybe
+  abbrev pub leaves_of : List Request → List (Option Element)
   leaves_of qs = map (λ h. h.leaves) (answers (cycling k) qs (clock_cleared k m).desk)
 
   -- the bucket queue of one operation at a time, on the same slices: what it says, its store
@@ -64,7 +64,7 @@ module _ (k : Lay) (m : Desk) where
   -- (1) and (2): "numbers .. are the one-at-a-time bucket queue's; what leaves in cycle t + S is its answer to the request of cycle t, and nothing else leaves"
   pub record Answers (qs : List Request) : Type 0 where
     pub numbers : numbers_of qs ≡ map said_number (one_says qs)
-    pub later : List Maybe
+    pub later : List (Option Element)
     pub leaves : leaves_of qs ++ later ≡ replicate k.storeys None ++ map out_of (one_says qs)
     pub due : length later ≡ k.storeys
 
@@ -96,7 +96,7 @@ module _ (k : Lay) (m : Desk) where
 -- ---- first in, first out
 
 -- the elements among what leaves, cycle by cycle
-unfoldable pub outs : List Maybe → List Element
+unfoldable pub outs : List (Option Element) → List Element
 outs [] = []
 outs (None ∷ ys) = outs ys
 outs (Some x ∷ ys) = x ∷ outs ys
@@ -104,7 +104,7 @@ outs (Some x ∷ ys) = x ∷ outs ys
 -- of each rank, what came in is what has left, then what has still to leave, then what is held, in this order, "also where pops are back to back". What
 -- came in goes by the numbers, which are those of one at a time
 pub record InOrder (k : Lay) (m : Desk) (qs : List Request) : Type 0 where
-  pub later : List Maybe
+  pub later : List (Option Element)
   pub due : length later ≡ k.storeys
   pub fifo : (r : ℕ) → of_rank r (stores.brought (map ask qs) (one_says k m qs)) ≡ of_rank r (outs (leaves_of k m qs)) ++ (of_rank r (outs later) ++ of_rank r (stored k (one_store k m qs).words))
 

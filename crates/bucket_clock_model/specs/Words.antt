@@ -1,11 +1,11 @@
 -- A storey on the words: its bits, a count for each bit, and its tests. These are definitions.
 use Rattle.std.specs.Prelude.{◌%◌, ◌&&◌, ◌*◌, ◌+◌, ◌-◌, ◌/◌, ◌^◌}
-use Rattle.laws.specs.Prelude.{Bool, Bool·beq, List, Request, eqb, false, leb, ltb, not, pred, set, suc, true, zero, ℕ}
+use Rattle.laws.specs.Prelude.{Element, Bool, Bool·beq, List, Request, eqb, false, leb, ltb, not, pred, set, suc, true, zero, ℕ}
 use Rattle.std.specs.Int.Count.{count_trailing_zeros}
 use Rattle.bucket_model.specs.declared.Lay.{Lay}
 use Rattle.bucket_model.specs.Prelude.{Storey, bit_of, word}
-use Rattle.bucket_clock_model.specs.declared.Maybe.{Maybe}
-use Rattle.bucket_clock_model.specs.declared.Maybe.TheVariants.{None, Some}
+use Rattle.std.specs.Prelude.{Option}
+use Rattle.std.specs.Prelude.{None, Some}
 use Rattle.bucket_clock_model.specs.Lists.{newcomer, takes}
 use Rattle.bucket_clock_model.specs.Pipe.{lead}
 
@@ -45,7 +45,7 @@ abbrev pub take_if : Storey → Bool → ℕ → Floor → Floor
 take_if p true w s = storey_take p (way_below p s.bits w) s
 take_if p false w s = s
 
-abbrev pub put_if : Storey → ℕ → Maybe → Floor → Floor
+abbrev pub put_if : Storey → ℕ → Option Element → Floor → Floor
 put_if p d None s = s
 put_if p d (Some x) s = storey_put p (lead d x.rank.0) s
 
@@ -77,7 +77,7 @@ take_if_ok n p true w s = take_ok n p w s
 take_if_ok n p false w s = true
 
 -- .. "x's rank is at least R"
-abbrev pub put_if_ok : Lay → Storey → ℕ → Maybe → Floor → Bool
+abbrev pub put_if_ok : Lay → Storey → ℕ → Option Element → Floor → Bool
 put_if_ok k p d None s = true
 put_if_ok k p d (Some x) s = ltb x.rank.0 k.ranks && put_ok k.nodes p (lead d x.rank.0) s
 

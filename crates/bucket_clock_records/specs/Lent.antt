@@ -1,6 +1,6 @@
 -- The clocked bucket queue's records in the host's own memory: what is read of them, and what is written back. These are definitions.
 use Rattle.std.specs.Prelude.{◌&&◌, ◌∷◌}
-use Rattle.laws.specs.Prelude.{Bool, Element, Idle, List, Pop, Push, Replace, Request, [], cond, element, eqb, get_or, leb, length, set, suc, true, zero, ℕ}
+use Rattle.laws.specs.Prelude.{Bool, Element, Idle, List, Pop, Push, Replace, Request, [], cond, element, eqb, get_or, leb, length, set, suc, zero, ℕ}
 use Rattle.bucket_clock_model.specs.declared.Waiting.{Waiting}
 use Rattle.bucket_clock_model.specs.Desk.{fresh, no_work, record_count, waiting, work_at}
 use Rattle.bucket_clock_records.specs.declared.WorksRead.{WorksRead}

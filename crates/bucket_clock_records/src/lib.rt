@@ -3,13 +3,14 @@
 #![tactic(auto)]
 
 ghost use Rattle.std.specs.Prelude.{cond, ◌≡◌, ◌≤◌, leb, length};
-ghost use Rattle.bucket_clock_model.specs.Desk.{no_work, record_count};
+ghost use Rattle.bucket_clock_model.specs.Desk.{record_count};
 ghost use Rattle.bucket_clock_records.specs.Lent.{bare_record, kind_in, laden_record, lends, read_of, record_of, waiting_of, works_back};
 
-use bucket_clock_model::{RECORDS, Waiting};
+use bucket_clock_model::{RECORDS, Waiting, no_work};
 use strip::{Element, Request, element_of};
 
-// What was read of the records: what each holds, and whether there are enough of them and all the kinds are kinds.
+// What was read of the records: what each holds, and whether there are enough of them and all the kinds are kinds. No Option: `read_of` promises what
+// each holds where `ok` is false too.
 #[derive(Clone, Copy)]
 pub struct WorksRead {
     pub works: [Waiting; RECORDS],
@@ -34,42 +35,27 @@ fn reached(storeys: usize, len: usize) -> usize
     0
 }
 
-// Where no record was read, and where nothing is pending.
-fn no_work() -> Waiting
-    ensures { result ≡ no_work }
-{
-    Waiting {
-        does: Request::Idle,
-        way: 0,
-    }
-}
-
 // What a record holds; the numbers that its kind does not use are not read.
 fn waiting_of(r: [u32; 5]) -> Waiting
     ensures { result ≡ waiting_of r }
 {
-    let kind = r[0];
-    let way = r[1];
-    let x = element_of(r[2], r[3], r[4]);
-    if kind == 1 {
-        return Waiting {
+    let [kind, way, rank, tag, length] = r;
+    let x = element_of(rank, tag, length);
+    match kind {
+        1 => Waiting {
             does: Request::Push(x),
             way: 0,
-        };
-    }
-    if kind == 2 {
-        return Waiting {
+        },
+        2 => Waiting {
             does: Request::Pop,
             way,
-        };
-    }
-    if kind == 3 {
-        return Waiting {
+        },
+        3 => Waiting {
             does: Request::Replace(x),
             way,
-        };
+        },
+        _ => no_work(),
     }
-    no_work()
 }
 
 // Whether a record's kind is one.
@@ -87,15 +73,12 @@ pub fn load(records: &[[u32; 5]], storeys: usize) -> WorksRead
     let len = records.len();
     let lent = is_lent(storeys, len);
     let n = reached(storeys, len);
-    let none = no_work();
-    let mut works = [none; RECORDS];
+    let mut works = [no_work(); RECORDS];
     let mut ok = lent;
-    let mut i = 0;
-    while i < n {
+    for i in 0..n {
         let r = records[i];
         works[i] = waiting_of(r);
-        ok = ok & is_kind(r);
-        i = i + 1;
+        ok &= is_kind(r);
     }
     WorksRead { works, ok }
 }
@@ -113,23 +96,18 @@ fn bare(kind: u32, way: u32) -> [u32; 5]
 fn laden(kind: u32, way: u32, x: Element) -> [u32; 5]
     ensures { result ≡ laden_record kind way x }
 {
-    let rank = x.rank.0;
-    let tag = x.tag.0;
-    let length = x.length.0;
-    [kind, way, rank, tag, length]
+    [kind, way, x.rank.0, x.tag.0, x.length.0]
 }
 
 // A record as it is written: 0 for what its kind does not use.
 fn record_of(g: Waiting) -> [u32; 5]
     ensures { result ≡ record_of g }
 {
-    let does = g.does;
-    let way = g.way;
-    match does {
+    match g.does {
         Request::Idle => bare(0, 0),
         Request::Push(x) => laden(1, 0, x),
-        Request::Pop => bare(2, way),
-        Request::Replace(y) => laden(3, way, y),
+        Request::Pop => bare(2, g.way),
+        Request::Replace(y) => laden(3, g.way, y),
     }
 }
 
@@ -139,10 +117,7 @@ pub fn hand_back(records: &mut [[u32; 5]], works: [Waiting; RECORDS], n: usize)
     requires long { n ≤ length records.old }
     ensures { records.new ≡ works_back n works records.old }
 {
-    let mut i = 0;
-    while i < n {
-        let g = works[i];
-        records[i] = record_of(g);
-        i = i + 1;
+    for i in 0..n {
+        records[i] = record_of(works[i]);
     }
 }

@@ -1,69 +1,52 @@
 -- What the buckets' functions have read and written is what the rules read and write. Each law takes what a function has read as equations.
-use Rattle.laws.specs.Prelude.{Bool, Bool·beq, Element, Idle, List, Pop, Push, Replace, Request, [], ◌&&◌, ◌++◌, ◌+◌, ◌<◌, ◌∙◌, ◌∷◌, ◌≡◌, ◌≤◌, and_left, and_right, and-unit, ap, arith, eq-eqb, eqb, false, false≢true, le-leb, le-ltb, leb, length, lt-ltb, ltb, ne_eqb, not, refl, subst, sym, true, ℕ, ℕ_discrete}
+use Rattle.laws.specs.Prelude.{Bool, Bool·beq, Element, Idle, List, Pop, Push, Replace, Request, [], ◌&&◌, ◌++◌, ◌<◌, ◌∙◌, ◌∷◌, ◌≡◌, ◌≤◌, and-unit, ap, arith, eq-eqb, eqb, false, false≢true, le-leb, le-ltb, leb, length, lt-ltb, ltb, ne_eqb, not, refl, subst, sym, true, ℕ}
 use Rattle.bucket_model.proofs.Laws.{free-after, head-else, head-own, next-else, next-own, tail-else, tail-own}
+use Rattle.bucket_model.specs.declared.Bucket.{Bucket}
 use Rattle.bucket_model.specs.declared.Lay.{Lay}
-use Rattle.bucket_model.specs.declared.Lowest.{Lowest}
+use Rattle.bucket_model.specs.Calls.{Lowest}
 use Rattle.bucket_model.specs.Prelude.{Laid, head_at, link_at, load_in, load_of, load_writes, loaded, lowest_in, next_at, next_of, no_load, pop_ok, tail_at, tail_left, taken_words, word, write}
 use Rattle.bucket_node.specs.Places.{Fits, Linkable, NodeOf}
 use Rattle.bucket_clock_model.proofs.Damage.{bucket-means, bucket-take-means}
 use Rattle.bucket_clock_model.proofs.Links.{But, low-words, take-but, take_long}
 use Rattle.bucket_clock_model.proofs.StageReads.{next-same}
 use Rattle.bucket_clock_model.specs.Damage.{BucketFit, BucketPutFit, BucketTakeFit}
-use Rattle.bucket_clock_model.specs.declared.Maybe.{Maybe}
-use Rattle.bucket_clock_model.specs.declared.Maybe.TheVariants.{None, Some}
+use Rattle.std.specs.Option.{is_some}
+use Rattle.std.specs.Prelude.{None, Option, Some}
 use Rattle.bucket_clock_model.specs.declared.Waiting.{Waiting}
 use Rattle.bucket_clock_model.specs.Links.{bucket_leaves, bucket_ok, bucket_put, bucket_put_ok, bucket_stage, bucket_take, bucket_take_ok}
 use Rattle.bucket_clock_model.specs.Lists.{takes}
-use Rattle.bucket_clock_step.specs.Buckets.{Found, Joins, Leaves}
+use Rattle.bucket_clock_step.specs.Buckets.{Found, Joins, Leaves, Seen}
 
 -- ---- the bucket that a pop finds
 
 module _ (k : Lay) (w : List ℕ) where
-  pub head-is : (r head tail next behind : ℕ) → head ≡ word w (head_at k r) → tail ≡ word w (tail_at k r) → next ≡ next_of k w head → behind ≡ next_of k w tail
-      → ◌≡◌ {A = Lowest}
-      (record {
-        good = not (eqb head 0) && not (eqb tail 0) && leb head k.nodes && leb tail k.nodes && leb next k.nodes && eqb behind 0 && Bool·beq (eqb next 0) (eqb head tail);
-        rank = r;
-        head = head;
-        tail = tail;
-        next = next;
-      })
-      (lowest_in k w r)
-  unfolding pop_ok
-  head-is r head tail next behind p q v u =
-      let n : next ≡ next_of k w (word w (head_at k r)) = v ∙ ap (next_of k w) p in
-      let m : behind ≡ next_of k w (word w (tail_at k r)) = u ∙ ap (next_of k w) q in
-      λ i. record { good = pop_ok k.nodes (p i) (q i) (n i) (m i); rank = r; head = p i; tail = q i; next = n i }
-
-  pub found-far : (way : ℕ) (low : Lowest) → low.good ≡ false → k.ranks ≤ way → Found k w way low
+  pub take-far : (way : ℕ) → k.ranks ≤ way → bucket_take_ok k way w ≡ false
   unfolding bucket_take_ok
-  found-far way low e h =
+  take-far way h = rw (le-ltb way k.ranks h) refl
+
+  module _ (way free behind : ℕ) (low : Bucket) (l : way < k.ranks) (s : Seen k w way low) (f : free ≡ word w k.free) (b : behind ≡ next_of k w low.tail) (t : Bool)
+      (e : (leb free k.nodes && (not (eqb low.head 0) && not (eqb low.tail 0) && leb low.head k.nodes && leb low.tail k.nodes && leb low.next k.nodes && eqb behind 0 && Bool·beq (eqb low.next 0) (eqb low.head low.tail))) ≡ t) where
+    pub take-is : bucket_take_ok k way w ≡ t
+    unfolding bucket_take_ok pop_ok
+    take-is = rw (lt-ltb way k.ranks l) ((λ i. leb (sym f i) k.nodes && pop_ok k.nodes (sym s.head i) (sym s.tail i) (sym s.next i) ((ap (next_of k w) (sym s.tail) ∙ sym b) i)) ∙ e)
+
+  pub take-some : (o : Option Bucket) (way : ℕ) → Found k w way o → is_some o ≡ bucket_take_ok k way w
+  take-some None way f = sym f
+  take-some (Some low) way f = sym f.0
+
+  -- one that passes the tests can leave
+  pub leaves-of : (way : ℕ) (low : Bucket) → Fits k w → bucket_take_ok k way w ≡ true → Seen k w way low → Leaves k w low
+  leaves-of way low fits t s =
       record {
-        good = e ∙ rw (le-ltb way k.ranks h) refl;
-        rank = λ t. absurd (false≢true (sym e ∙ t));
-        leaves = λ t. absurd (false≢true (sym e ∙ t));
+        fits = fits;
+        fit = subst (λ (i : ℕ). BucketTakeFit k i w) (sym s.rank) ((bucket-take-means k way w).says t);
+        head = s.head ∙ ap (λ (i : ℕ). word w (head_at k i)) (sym s.rank);
+        tail = s.tail ∙ ap (λ (i : ℕ). word w (tail_at k i)) (sym s.rank);
+        next = s.next ∙ ap (λ (i : ℕ). next_of k w (word w (head_at k i))) (sym s.rank);
       }
 
-  first_good : (way free : ℕ) (low : Lowest) → way < k.ranks → low ≡ lowest_in k w way → free ≡ word w k.free → (leb free k.nodes && low.good) ≡ bucket_take_ok k way w
-  unfolding bucket_take_ok
-  first_good way free low l e f = rw (e, f, lt-ltb way k.ranks l) refl
-
-  pub found-is : (way free : ℕ) (low : Lowest) → Fits k w → way < k.ranks → low ≡ lowest_in k w way → free ≡ word w k.free
-      → Found k w way (record { good = leb free k.nodes && low.good; rank = low.rank; head = low.head; tail = low.tail; next = low.next })
-  found-is way free low fits l e f =
-      let r : low.rank ≡ way = ap (λ (x : Lowest). x.rank) e in
-      let g : (leb free k.nodes && low.good) ≡ bucket_take_ok k way w = first_good way free low l e f in
-      record {
-        good = g;
-        rank = λ t. r;
-        leaves = λ t. record {
-          fits = fits;
-          fit = subst (λ (i : ℕ). BucketTakeFit k i w) (sym r) ((bucket-take-means k way w).says (sym g ∙ t));
-          head = ap (λ (x : Lowest). x.head) e ∙ ap (λ (i : ℕ). word w (head_at k i)) (sym r);
-          tail = ap (λ (x : Lowest). x.tail) e ∙ ap (λ (i : ℕ). word w (tail_at k i)) (sym r);
-          next = ap (λ (x : Lowest). x.next) e ∙ ap (λ (i : ℕ). next_of k w (word w (head_at k i))) (sym r);
-        };
-      }
+  pub leaves-found : (way : ℕ) (low : Bucket) → Fits k w → Found k w way (Some low) → Leaves k w low
+  leaves-found way low fits f = leaves-of way low fits f.0 f.1
 
   -- ---- the bucket that a push joins
   pub put-far : (r : ℕ) → k.ranks ≤ r → false ≡ bucket_put_ok k r w
@@ -77,7 +60,7 @@ module _ (k : Lay) (w : List ℕ) where
 
 -- ---- what stands after a pop that is not done yet
 
-module _ (k : Lay) (w : List ℕ) (low : Lowest) (h : Leaves k w low) where
+module _ (k : Lay) (w : List ℕ) (low : Bucket) (h : Leaves k w low) where
   laid : Laid k
   laid = h.fits.laid
 
@@ -178,15 +161,6 @@ module _ (k : Lay) (w : List ℕ) (e : Element) (h : Joins k w e.rank.0) where
   unfolding bucket_put
   in_is next tail link n t l = rw (l, n, t) refl
 
-module _ (k : Lay) (r tail : ℕ) (h : Linkable k r tail) where
-  pub link-head : tail ≡ 0 → (head_at k r ≡ link_at k r tail) × (head_at k r < k.free)
-  unfolding link_at
-  link-head e = (rw (eq-eqb tail 0 e) refl, omega (arith, h.rank<, h.laid.lists, h.laid.pool))
-
-  pub link-next : (tail ≡ 0 → ⊥) → (next_at k tail ≡ link_at k r tail) × (next_at k tail < k.free)
-  unfolding link_at
-  link-next n = (rw (ne_eqb tail 0 n) refl, omega (arith, h.tail≤, h.laid.pool))
-
 -- ---- what waits for the buckets
 
 module _ (k : Lay) (w : List ℕ) (g : Waiting) where
@@ -202,13 +176,13 @@ module _ (k : Lay) (w : List ℕ) (g : Waiting) where
   unfolding bucket_ok
   ok-pop t e h = rw e (h ∙ sym (and-unit (bucket_take_ok k g.way w)))
 
-  pub ok-shut : (x : Element) (low : Lowest) → g.does ≡ Replace x → Found k w g.way low → low.good ≡ false → false ≡ bucket_ok k g.does g.way w
+  pub ok-shut : (x : Element) → g.does ≡ Replace x → bucket_take_ok k g.way w ≡ false → false ≡ bucket_ok k g.does g.way w
   unfolding bucket_ok
-  ok-shut x low e f n = rw (e, sym f.good ∙ n) refl
+  ok-shut x e n = rw (e, n) refl
 
-  pub ok-replace : (x : Element) (low : Lowest) (t : Bool) → g.does ≡ Replace x → Found k w g.way low → low.good ≡ true → t ≡ bucket_put_ok k x.rank.0 (bucket_take k low.rank w) → t ≡ bucket_ok k g.does g.way w
+  pub ok-replace : (x : Element) (low : Bucket) (t : Bool) → g.does ≡ Replace x → Found k w g.way (Some low) → t ≡ bucket_put_ok k x.rank.0 (bucket_take k low.rank w) → t ≡ bucket_ok k g.does g.way w
   unfolding bucket_ok
-  ok-replace x low t e f y h = rw (e, sym f.good ∙ y, ← f.rank y) h
+  ok-replace x low t e f h = rw (e, f.0, ← f.1.rank) h
 
   -- ---- and what is done
   module _ (fits : Fits k w) (h : bucket_ok k g.does g.way w ≡ true) where
@@ -228,16 +202,21 @@ module _ (k : Lay) (w : List ℕ) (g : Waiting) where
         go Pop t f = f.0
         go (Replace x) t f = f.0
 
-    pub pop-leaves : (low : Lowest) → g.does ≡ Pop → Found k w g.way low → Leaves k w low
-    pop-leaves low e f = f.leaves (f.good ∙ opens Pop refl e)
+    pub pop-way : g.does ≡ Pop → g.way < k.ranks
+    pop-way e = (fit Pop e).0.within
 
-    pub replace-leaves : (x : Element) (low : Lowest) → g.does ≡ Replace x → Found k w g.way low → Leaves k w low
-    replace-leaves x low e f = f.leaves (f.good ∙ opens (Replace x) refl e)
+    pub replace-way : (x : Element) → g.does ≡ Replace x → g.way < k.ranks
+    replace-way x e = (fit (Replace x) e).0.within
 
-    pub replace-joins : (x : Element) (low : Lowest) (v : List ℕ) → g.does ≡ Replace x → Found k w g.way low → v ≡ bucket_take k low.rank w → Joins k v x.rank.0
+    pub pop-leaves : (low : Bucket) → g.does ≡ Pop → Seen k w g.way low → Leaves k w low
+    pop-leaves low e s = leaves-of k w g.way low fits (opens Pop refl e) s
+
+    pub replace-leaves : (x : Element) (low : Bucket) → g.does ≡ Replace x → Seen k w g.way low → Leaves k w low
+    replace-leaves x low e s = leaves-of k w g.way low fits (opens (Replace x) refl e) s
+
+    pub replace-joins : (x : Element) (low : Bucket) (v : List ℕ) → g.does ≡ Replace x → Seen k w g.way low → v ≡ bucket_take k low.rank w → Joins k v x.rank.0
     replace-joins x low v e f t =
-        let r : low.rank ≡ g.way = f.rank (f.good ∙ opens (Replace x) refl e) in
-        let s : v ≡ bucket_take k g.way w = t ∙ ap (λ (i : ℕ). bucket_take k i w) r in
+        let s : v ≡ bucket_take k g.way w = t ∙ ap (λ (i : ℕ). bucket_take k i w) f.rank in
         let l : length v ≡ length w = ap length s ∙ take_long k true g.way w in
         record {
           fits = record { laid = fits.laid; words = omega (arith, fits.words) };
@@ -250,10 +229,10 @@ module _ (k : Lay) (w : List ℕ) (g : Waiting) where
     pub done-push : (x : Element) (v : List ℕ) → g.does ≡ Push x → v ≡ bucket_put k x w → (v ≡ bucket_stage k g.does g.way w) × (None ≡ bucket_leaves k (takes g.does) g.way w)
     done-push x v e t = rw e (t, refl)
 
-    pub done-pop : (low : Lowest) (v : List ℕ) (o : Element) → g.does ≡ Pop → Found k w g.way low → v ≡ bucket_take k low.rank w → Some o ≡ bucket_leaves k true low.rank w
+    pub done-pop : (low : Bucket) (v : List ℕ) (o : Element) → g.does ≡ Pop → Seen k w g.way low → v ≡ bucket_take k low.rank w → Some o ≡ bucket_leaves k true low.rank w
         → (v ≡ bucket_stage k g.does g.way w) × (Some o ≡ bucket_leaves k (takes g.does) g.way w)
-    done-pop low v o e f t y = let r : low.rank ≡ g.way = f.rank (f.good ∙ opens Pop refl e) in rw (e, ← r) (t, y)
+    done-pop low v o e f t y = rw (e, ← f.rank) (t, y)
 
-    pub done-replace : (x : Element) (low : Lowest) (v u : List ℕ) (o : Element) → g.does ≡ Replace x → Found k w g.way low → v ≡ bucket_take k low.rank w → Some o ≡ bucket_leaves k true low.rank w → u ≡ bucket_put k x v
+    pub done-replace : (x : Element) (low : Bucket) (v u : List ℕ) (o : Element) → g.does ≡ Replace x → Seen k w g.way low → v ≡ bucket_take k low.rank w → Some o ≡ bucket_leaves k true low.rank w → u ≡ bucket_put k x v
         → (u ≡ bucket_stage k g.does g.way w) × (Some o ≡ bucket_leaves k (takes g.does) g.way w)
-    done-replace x low v u o e f t y z = let r : low.rank ≡ g.way = f.rank (f.good ∙ opens (Replace x) refl e) in rw (e, ← r, ← t) (z, y)
+    done-replace x low v u o e f t y z = rw (e, ← f.rank, ← t) (z, y)

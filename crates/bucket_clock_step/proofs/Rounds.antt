@@ -1,5 +1,5 @@
 -- Stage by stage: what the loops have tested and done so far is what the rules test and do, and the next stage finds its words as they stood.
-use Rattle.laws.specs.Prelude.{Bool, Bool·beq, Idle, List, Pop, Push, Replace, Request, ◌%◌, ◌&&◌, ◌*◌, ◌+◌, ◌-◌, ◌/◌, ◌<◌, ◌^◌, ◌∙◌, ◌≡◌, ◌≤◌, and_assoc, and_left, and_right, ap, ap₂, arith, eqb, false, inr, leb, length, length-set, ltb, not, pow-suc, refl, set, subst, suc, sym, true, zero, ℕ}
+use Rattle.laws.specs.Prelude.{Element, Bool, Bool·beq, Idle, List, Pop, Push, Replace, Request, ◌%◌, ◌&&◌, ◌*◌, ◌+◌, ◌/◌, ◌<◌, ◌^◌, ◌∙◌, ◌≡◌, ◌≤◌, and_assoc, and_left, and_right, ap, ap₂, arith, eqb, false, inr, leb, length, length-set, ltb, not, pow-suc, refl, set, subst, suc, sym, true, zero, ℕ}
 use lib.Dec.{lit≤}
 use Rattle.bitmap.specs.Bits.{bit_at}
 use Rattle.promise.specs.Prelude.{Step, step}
@@ -9,17 +9,17 @@ use Rattle.bucket_node.specs.Places.{Fits}
 use Rattle.bucket_clock_model.proofs.Damage.{bucket-means, storey-means}
 use Rattle.bucket_clock_model.proofs.Links.{stage-held}
 use Rattle.bucket_clock_model.proofs.Long.{Broad, staged-broad}
-use Rattle.bucket_clock_model.proofs.OneStep.{bit-same, count_same, From, Onward, Outside, put-stood, Stood, take-stood, takes_same, way_same}
+use Rattle.bucket_clock_model.proofs.OneStep.{bit-same, count_same, Onward, put-stood, Stood, take-stood, takes_same, way_same}
 use Rattle.bucket_clock_model.proofs.Worked.{rank-inside, words-le, work-other}
 use Rattle.bucket_clock_model.specs.Damage.{StoreyFit}
-use Rattle.bucket_clock_model.specs.declared.Maybe.{Maybe}
-use Rattle.bucket_clock_model.specs.declared.Maybe.TheVariants.{None, Some}
+use Rattle.std.specs.Prelude.{Option}
+use Rattle.std.specs.Prelude.{None, Some}
 use Rattle.bucket_clock_model.specs.declared.Waiting.{Waiting}
 use Rattle.bucket_clock_model.specs.Desk.{Desk, desk, floor_of, handed, stage_done, stages, stages_ok, work_at}
 use Rattle.bucket_clock_model.specs.Links.{bucket_leaves, bucket_ok, bucket_stage}
 use Rattle.bucket_clock_model.specs.Lists.{newcomer, takes}
 use Rattle.bucket_clock_model.specs.Pipe.{lead}
-use Rattle.bucket_clock_model.specs.Words.{count_at, Floor, floor, put_if_ok, put_ok, staged, storey_ok, take_if, take_if_ok, take_ok, way_below}
+use Rattle.bucket_clock_model.specs.Words.{count_at, Floor, put_if_ok, put_ok, staged, storey_ok, take_if, take_if_ok, take_ok, way_below}
 use Rattle.bucket_clock_step.specs.Stages.{Ready}
 use Rattle.bucket_clock_step.specs.Storey.{Here, place, Worked}
 
@@ -42,7 +42,7 @@ module _ (k : Lay) (p : Storey) (d : ℕ) where
   takes-ok-same true w s u o = take-ok-same k.nodes p s u o w
   takes-ok-same false w s u o = refl
 
-  new-ok-same : (x : Maybe) (s u : Floor) → Onward p s u → put_if_ok k p d x s ≡ put_if_ok k p d x u
+  new-ok-same : (x : Option Element) (s u : Floor) → Onward p s u → put_if_ok k p d x s ≡ put_if_ok k p d x u
   new-ok-same None s u o = refl
   new-ok-same (Some x) s u o = ap (λ (t : Bool). ltb x.rank.0 k.ranks && t) (put-ok-same k.nodes p s u o (lead d x.rank.0))
 
@@ -154,7 +154,7 @@ module _ (k : Lay) (m : Desk) where
 
 -- ---- the work so far
 
-pub record Going (k : Lay) (B C W : ℕ) (goal : Step Maybe Desk) (u : Desk) (work : Waiting) (base width e : ℕ) : Type 0 where
+pub record Going (k : Lay) (B C W : ℕ) (goal : Step (Option Element) Desk) (u : Desk) (work : Waiting) (base width e : ℕ) : Type 0 where
   pub base-is : base ≡ k.bits + words_of e
   pub width_is : width ≡ 64 ^ e
   pub most : e ≤ k.storeys
@@ -181,7 +181,7 @@ module _ (k : Lay) (B C W : ℕ) (ready : Ready k B C W) where
         goes = λ d h. let q : d ≡ k.storeys = omega arith in rw q refl;
       }
 
-  module _ (goal : Step Maybe Desk) (u : Desk) (work : Waiting) (base width e : ℕ) (t : Going k B C W goal u work base width e) where
+  module _ (goal : Step (Option Element) Desk) (u : Desk) (work : Waiting) (base width e : ℕ) (t : Going k B C W goal u work base width e) where
     module _ (d : ℕ) (e_s : e + suc d ≡ k.storeys) where
       abbrev p : Storey
       p = storey k.bits e
@@ -253,7 +253,7 @@ module _ (k : Lay) (B C W : ℕ) (ready : Ready k B C W) where
     unfolding stages_ok
     go-last-ok h = t.tested 0 (omega (arith, t.most))
 
-    pub go-end : k.storeys ≤ e → (w : List ℕ) (out : Maybe) → (w ≡ bucket_stage k work.does work.way u.words) × (out ≡ bucket_leaves k (takes work.does) work.way u.words)
+    pub go-end : k.storeys ≤ e → (w : List ℕ) (out : Option Element) → (w ≡ bucket_stage k work.does work.way u.words) × (out ≡ bucket_leaves k (takes work.does) work.way u.words)
         → step out (desk u.bits u.counts w u.records) ≡ goal
     unfolding stages
     go-end h w out z = (λ i. step (z.1 i) (desk u.bits u.counts (z.0 i) u.records)) ∙ t.goes 0 (omega (arith, t.most))

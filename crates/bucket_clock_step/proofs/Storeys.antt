@@ -1,18 +1,16 @@
 -- What a storey's functions have read and written is what the rules read and write. Each law takes what a function has read as equations.
 use Rattle.laws.specs.Prelude.{Bool, Bool·beq, Element, Idle, List, Pop, Push, Replace, Request, ◌%◌, ◌&&◌, ◌*◌, ◌+◌, ◌-◌, ◌/◌, ◌<◌, ◌^◌, ◌∙◌, ◌≡◌, ◌≤◌, and-unit, ap, ap₂, arith, cond, eq-eqb, eqb, false, false≢true, le-ltb, leb, length, length-set, lt-ltb, ltb, ne_eqb, not, pred, refl, set, set-get_or, sub-one, subst, suc, sym, true, zero, ℕ, ℕ_discrete}
-use lib.Count.{count_trailing_zeros}
 use Rattle.bitmap.specs.Bits.{bit_at, Found}
 use Rattle.bucket_model.proofs.Laws.{other, same}
 use Rattle.bucket_model.specs.declared.Lay.{Lay}
 use Rattle.bucket_model.specs.Prelude.{Storey, pool, word}
 use Rattle.bucket_clock_model.proofs.Damage.{storey-means, take-means}
 use Rattle.bucket_clock_model.specs.Damage.{PutFit, StoreyFit, TakeFit}
-use Rattle.bucket_clock_model.specs.declared.Maybe.TheVariants.{Some}
+use Rattle.std.specs.Prelude.{Some}
 use Rattle.bucket_clock_model.specs.declared.Waiting.{Waiting}
-use Rattle.bucket_clock_model.specs.Desk.{handed, waiting}
-use Rattle.bucket_clock_model.specs.Lists.{takes}
+use Rattle.bucket_clock_model.specs.Desk.{waiting}
 use Rattle.bucket_clock_model.specs.Pipe.{lead}
-use Rattle.bucket_clock_model.specs.Words.{bit_off, bit_on, count_at, Floor, floor, put_if_ok, put_ok, staged, storey_ok, storey_put, storey_take, take_ok, way_below}
+use Rattle.bucket_clock_model.specs.Words.{bit_off, bit_on, Floor, floor, put_if_ok, put_ok, storey_ok, storey_put, storey_take, take_ok, way_below}
 use Rattle.bucket_clock_step.specs.Storey.{Falls, Floored, Here, place, Rises, Worked}
 
 -- ---- a rank's bit

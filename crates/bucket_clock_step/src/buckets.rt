@@ -1,15 +1,15 @@
 // The buckets: heads, tails, nodes and free link. What a stage's tests read and what it writes are those of one operation at a time, but for the held
 // count, which changes in the request's own cycle.
-ghost use Rattle.std.specs.Prelude.{true, ◌≡◌, ◌<◌};
+ghost use Rattle.std.specs.Prelude.{Some, true, ◌≡◌, ◌<◌};
 ghost use Rattle.bucket_clock_model.specs.Links.{bucket_leaves, bucket_ok, bucket_put, bucket_put_ok, bucket_stage, bucket_take, bucket_take_ok};
 ghost use Rattle.bucket_clock_model.specs.Lists.{takes};
-ghost use Rattle.bucket_model.specs.Calls.{link_at, lowest_in};
 ghost use Rattle.bucket_model.specs.Layout.{head_at, tail_at, word};
-ghost use Rattle.bucket_node.specs.Places.{Fits, Linkable};
-ghost use Rattle.bucket_clock_step.specs.Buckets.{Found, Joins, Leaves};
+ghost use Rattle.bucket_node.specs.Places.{Fits};
+ghost use Rattle.bucket_clock_step.specs.Buckets.{Found, Joins, Leaves, Seen};
 
-use bucket_clock_model::{Maybe, Waiting};
-use bucket_model::{Lay, Lowest};
+use bucket_clock_model::Waiting;
+use bucket_model::{Bucket, Lay};
+use bucket_node::links::link_at;
 use bucket_node::{
     LENGTH, NEXT, NODE, TAG, element_of, free_link, head_of, next_of, tail_left, tail_of,
 };
@@ -17,55 +17,43 @@ use strip::{Element, Request};
 
 // ---- the tests
 
-// A rank's bucket, as a pop finds it.
-fn find_head(words: &[u32], k: Lay, rank: u32) -> Lowest
+// What a pop reads of a rank's bucket.
+fn bucket_at(words: &[u32], k: Lay, rank: u32) -> Bucket
     requires fits { Fits k words.now }
     requires rank_in { rank < k.ranks }
-    ensures { result ≡ lowest_in k words.now rank }
+    ensures { Seen k words.now rank result }
 {
-    let n = k.nodes;
     let head = head_of(words, k, rank);
-    let tail = tail_of(words, k, rank);
-    let next = next_of(words, k, head);
-    let behind = next_of(words, k, tail);
-    Lowest {
-        good: (head != 0)
-            & (tail != 0)
-            & (head <= n)
-            & (tail <= n)
-            & (next <= n)
-            & (behind == 0)
-            & ((next == 0) == (head == tail)),
+    Bucket {
         rank,
         head,
-        tail,
-        next,
+        tail: tail_of(words, k, rank),
+        next: next_of(words, k, head),
     }
 }
 
-// D5: a pop that has come this way; and the bucket, where it is one.
-fn find_first(words: &[u32], k: Lay, way: u32) -> Lowest
+// D5: the bucket of a pop that has come this way, where it passes the tests.
+fn find_first(words: &[u32], k: Lay, way: u32) -> Option<Bucket>
     requires { Fits k words.now }
     ensures { Found k words.now way result }
 {
     if k.ranks <= way {
-        return Lowest {
-            good: false,
-            rank: 0,
-            head: 0,
-            tail: 0,
-            next: 0,
-        };
+        return None;
     }
-    let low = find_head(words, k, way);
-    let free = free_link(words, k);
-    Lowest {
-        good: (free <= k.nodes) & low.good,
-        rank: low.rank,
-        head: low.head,
-        tail: low.tail,
-        next: low.next,
+    let n = k.nodes;
+    let low = bucket_at(words, k, way);
+    let behind = next_of(words, k, low.tail);
+    let ends = (low.head != 0)
+        & (low.tail != 0)
+        & (low.head <= n)
+        & (low.tail <= n)
+        & (low.next <= n)
+        & (behind == 0)
+        & ((low.next == 0) == (low.head == low.tail));
+    if !((free_link(words, k) <= n) & ends) {
+        return None;
     }
+    Some(low)
 }
 
 // D4: a push of this rank.
@@ -92,8 +80,8 @@ fn put_ok(words: &[u32], k: Lay, rank: u32) -> bool
         & (free != tail)
 }
 
-// The head of a rank as after the pop of low, which is not done yet.
-fn head_after(words: &[u32], k: Lay, low: Lowest, rank: u32) -> u32
+// The head of a rank as after the pop of low, which is not done yet. Not `head_after` of `bucket_step`: the contracts name another store, `bucket_take`.
+fn head_after(words: &[u32], k: Lay, low: Bucket, rank: u32) -> u32
     requires leaves { Leaves k words.now low }
     requires rank_in { rank < k.ranks }
     ensures { result ≡ word (bucket_take k low.rank words.now) (head_at k rank) }
@@ -105,7 +93,7 @@ fn head_after(words: &[u32], k: Lay, low: Lowest, rank: u32) -> u32
 }
 
 // .. and its tail.
-fn tail_after(words: &[u32], k: Lay, low: Lowest, rank: u32) -> u32
+fn tail_after(words: &[u32], k: Lay, low: Bucket, rank: u32) -> u32
     requires leaves { Leaves k words.now low }
     requires rank_in { rank < k.ranks }
     ensures { result ≡ word (bucket_take k low.rank words.now) (tail_at k rank) }
@@ -117,7 +105,7 @@ fn tail_after(words: &[u32], k: Lay, low: Lowest, rank: u32) -> u32
 }
 
 // D4 on the words as after the pop of low. The node to be taken is then the freed one, and its next the free link of today.
-fn put_after_ok(words: &[u32], k: Lay, low: Lowest, rank: u32) -> bool
+fn put_after_ok(words: &[u32], k: Lay, low: Bucket, rank: u32) -> bool
     requires { Leaves k words.now low }
     ensures { result ≡ bucket_put_ok k rank (bucket_take k low.rank words.now) }
 {
@@ -139,104 +127,79 @@ pub fn bucket_ok(words: &[u32], k: Lay, g: Waiting) -> bool
     requires { Fits k words.now }
     ensures { result ≡ bucket_ok k g.does g.way words.now }
 {
-    let does = g.does;
-    match does {
+    match g.does {
         Request::Idle => true,
         Request::Push(x) => put_ok(words, k, x.rank.0),
-        Request::Pop => {
-            let low = find_first(words, k, g.way);
-            low.good
-        }
-        Request::Replace(y) => {
-            let low = find_first(words, k, g.way);
-            if !low.good {
-                return false;
-            }
-            put_after_ok(words, k, low, y.rank.0)
-        }
+        Request::Pop => find_first(words, k, g.way).is_some(),
+        Request::Replace(y) => match find_first(words, k, g.way) {
+            None => false,
+            Some(low) => put_after_ok(words, k, low, y.rank.0),
+        },
     }
 }
 
 // ---- the work
 
-// The head of the rank leaves, and its node is first in the free chain.
-fn take_out(words: &mut [u32], k: Lay, low: Lowest) -> Element
+// The head of the rank leaves, and its node is first in the free chain. Not `take_words` of `bucket_node`: that counts held down too, and here
+// held changes in the request's own cycle, as `bucket_take` and `taken_words` say.
+fn take_out(words: &mut [u32], k: Lay, low: Bucket) -> Element
     requires { Leaves k words.old low }
-    ensures { (words.new ≡ bucket_take k low.rank words.old) × (Maybe.Some result ≡ bucket_leaves k true low.rank words.old) }
+    ensures { (words.new ≡ bucket_take k low.rank words.old) × (Some result ≡ bucket_leaves k true low.rank words.old) }
 {
     let out = element_of(words, k, low.rank, low.head);
     let head_at = k.heads + low.rank as usize;
     let node = k.stem + NODE * (low.head as usize);
-    let free_at = k.free;
-    let free = words[free_at];
-    let tail = tail_left(low.next, low.tail);
+    let free = words[k.free];
     words[head_at] = low.next;
-    words[head_at + k.ranks as usize] = tail;
+    words[head_at + k.ranks as usize] = tail_left(low.next, low.tail);
     words[node + TAG] = 0;
     words[node + LENGTH] = 0;
     words[node + NEXT] = free;
-    words[free_at] = low.head;
+    words[k.free] = low.head;
     out
 }
 
-// Where the link to a newcomer stands: the head of an empty bucket, or the next of its tail.
-fn link_at(k: Lay, rank: u32, tail: u32) -> usize
-    requires { Linkable k rank tail }
-    ensures is { result ≡ link_at k rank tail }
-    ensures within { result < k.free }
-{
-    if tail == 0 {
-        return k.heads + rank as usize;
-    }
-    k.stem + NODE * (tail as usize) + NEXT
-}
-
-// The newcomer takes the node at the free link and is joined behind the tail of its rank.
+// The newcomer takes the node at the free link and is joined behind the tail of its rank. Not `join_words` of `bucket_node`, for the same reason.
 fn put_in(words: &mut [u32], k: Lay, e: Element)
     requires { Joins k words.old e.rank.0 }
     ensures { words.new ≡ bucket_put k e words.old }
 {
     let rank = e.rank.0;
-    let tag = e.tag.0;
-    let length = e.length.0;
-    let free_at = k.free;
-    let free = words[free_at];
+    let free = words[k.free];
     let next = next_of(words, k, free);
     let tail = tail_of(words, k, rank);
     let link = link_at(k, rank, tail);
     let node = k.stem + NODE * (free as usize);
     let tail_at = k.heads + rank as usize + k.ranks as usize;
-    words[free_at] = next;
-    words[node + TAG] = tag;
-    words[node + LENGTH] = length;
+    words[k.free] = next;
+    words[node + TAG] = e.tag.0;
+    words[node + LENGTH] = e.length.0;
     words[node + NEXT] = 0;
     words[link] = free;
     words[tail_at] = free;
 }
 
 // The buckets work at what waits for them. Answers what leaves.
-pub fn work_buckets(words: &mut [u32], k: Lay, g: Waiting) -> Maybe
+pub fn work_buckets(words: &mut [u32], k: Lay, g: Waiting) -> Option<Element>
     requires fits { Fits k words.old }
     requires passes { bucket_ok k g.does g.way words.old ≡ true }
     ensures { (words.new ≡ bucket_stage k g.does g.way words.old) × (result ≡ bucket_leaves k (takes g.does) g.way words.old) }
 {
-    let does = g.does;
-    match does {
-        Request::Idle => Maybe::None,
+    match g.does {
+        Request::Idle => None,
         Request::Push(x) => {
             put_in(words, k, x);
-            Maybe::None
+            None
         }
         Request::Pop => {
-            let low = find_first(words, k, g.way);
-            let out = take_out(words, k, low);
-            Maybe::Some(out)
+            let low = bucket_at(words, k, g.way);
+            Some(take_out(words, k, low))
         }
         Request::Replace(y) => {
-            let low = find_first(words, k, g.way);
+            let low = bucket_at(words, k, g.way);
             let out = take_out(words, k, low);
             put_in(words, k, y);
-            Maybe::Some(out)
+            Some(out)
         }
     }
 }

@@ -8,13 +8,14 @@ ghost use Rattle.bucket_clock_step.specs.Stages.{Ready};
 
 use crate::buckets::{bucket_ok, work_buckets};
 use crate::storey::{storey_ok, work_storey};
-use bucket_clock_model::{Maybe, RECORDS, Waiting};
+use bucket_clock_model::{RECORDS, Waiting};
 use bucket_model::Lay;
+use strip::Element;
 
 // What the stages leave: what leaves the queue, and the records.
 #[derive(Clone, Copy)]
 pub struct Ran {
-    pub leaves: Maybe,
+    pub leaves: Option<Element>,
     pub records: [Waiting; RECORDS],
 }
 
@@ -34,17 +35,13 @@ pub fn stages_ok(
     let mut work = g;
     let mut base = k.bits;
     let mut width = 1;
-    let mut e = 0;
-    while e < k.storeys {
-        let fine = storey_ok(bits, counts, k, base, width, k.storeys - e - 1, work);
-        ok = ok & fine;
+    for e in 0..k.storeys {
+        ok &= storey_ok(bits, counts, k, base, width, k.storeys - e - 1, work);
         work = records[e];
         base += width;
         width *= 64;
-        e += 1;
     }
-    let last = bucket_ok(words, k, work);
-    ok & last
+    ok & bucket_ok(words, k, work)
 }
 
 // Every stage works: the top storey at g, each other at what was pending above it. None writes the held count.
@@ -65,15 +62,12 @@ pub fn run_stages(
     let mut work = g;
     let mut base = k.bits;
     let mut width = 1;
-    let mut e = 0;
-    while e < k.storeys {
+    for e in 0..k.storeys {
         let next = left[e];
-        let handed = work_storey(bits, counts, k, base, width, k.storeys - e - 1, work);
-        left[e] = handed;
+        left[e] = work_storey(bits, counts, k, base, width, k.storeys - e - 1, work);
         work = next;
         base += width;
         width *= 64;
-        e += 1;
     }
     let leaves = work_buckets(words, k, work);
     Ran {

@@ -1,13 +1,12 @@
 // One storey of bits, with a count for each bit. Its first word is word `base`, it has `words` of them, and its counts begin at count 64 × base: 64 for each
 // word. `d` storeys are below it.
-ghost use Rattle.std.specs.Prelude.{cond, true, ◌≡◌, ◌*◌, ◌<◌, length};
+ghost use Rattle.std.specs.Prelude.{Some, true, ◌≡◌, ◌*◌, ◌<◌, length};
 ghost use Rattle.bucket_clock_model.specs.Pipe.{lead};
 ghost use Rattle.bucket_clock_model.specs.Words.{floor, put_if_ok, put_ok, storey_ok, storey_put, storey_take, take_ok, way_below};
-ghost use Rattle.bucket_clock_model.specs.declared.Maybe.TheVariants.{Some};
-ghost use Rattle.bucket_model.specs.Layout.{word};
 ghost use Rattle.bucket_clock_step.specs.Storey.{Falls, Floored, Here, place, Rises, Worked};
 
-use bucket_clock_model::Waiting;
+use bucket_bits::word_or;
+use bucket_clock_model::{Waiting, no_work};
 use bucket_model::Lay;
 use strip::{Element, Request};
 
@@ -18,10 +17,8 @@ pub fn lead_of(rank: u32, d: usize) -> usize
     ensures { result ≡ lead d rank }
 {
     let mut j = rank as usize;
-    let mut i = 0;
-    while i < d {
-        j = j / 64;
-        i += 1;
+    for _ in 0..d {
+        j /= 64;
     }
     j
 }
@@ -54,28 +51,6 @@ fn put_ok(bits: &[u64], counts: &[u32], n: u32, base: usize, words: usize, j: us
     ((c == 0) != on) & (c < n)
 }
 
-// The word at place `at`, or the one that is known where it is the same.
-fn word_or(bits: &[u64], at: usize, same: bool, known: u64) -> u64
-    requires { at < length bits.now }
-    ensures { result ≡ cond same known (word bits.now at) }
-{
-    if same {
-        return known;
-    }
-    bits[at]
-}
-
-// .. and a count.
-fn count_or(counts: &[u32], at: usize, same: bool, known: u32) -> u32
-    requires { at < length counts.now }
-    ensures { result ≡ cond same known (word counts.now at) }
-{
-    if same {
-        return known;
-    }
-    counts[at]
-}
-
 // D2 on the words as after the pop that has come this way, which is not done yet.
 fn put_after_ok(
     bits: &[u64],
@@ -97,7 +72,7 @@ fn put_after_ok(
     let taken = counts[64 * base + m];
     let left = bitmap::without(word, low, taken == 1);
     let own = word_or(bits, base + j / 64, j / 64 == way, left);
-    let c = count_or(counts, 64 * base + j, j == m, taken - 1);
+    let c = word_or(counts, 64 * base + j, j == m, taken - 1);
     let on = bitmap::bit(own, j % 64);
     ((c == 0) != on) & (c < n)
 }
@@ -162,8 +137,7 @@ pub fn storey_ok(
     requires { Here k base words d (length bits.now) (length counts.now) }
     ensures { result ≡ storey_ok k (place base words) d g.does g.way (floor bits.now counts.now) }
 {
-    let does = g.does;
-    match does {
+    match g.does {
         Request::Idle => true,
         Request::Push(x) => push_ok(bits, counts, k, base, words, d, x),
         Request::Pop => take_ok(bits, counts, k.nodes, base, words, g.way as usize),
@@ -216,12 +190,8 @@ pub fn work_storey(
     requires passes { storey_ok k (place base words) d g.does g.way (floor bits.old counts.old) ≡ true }
     ensures { Worked (place base words) d g (floor bits.old counts.old) (floor bits.new counts.new) result }
 {
-    let does = g.does;
-    match does {
-        Request::Idle => Waiting {
-            does: Request::Idle,
-            way: 0,
-        },
+    match g.does {
+        Request::Idle => no_work(),
         Request::Push(x) => {
             let j = lead_of(x.rank.0, d);
             storey_put(bits, counts, base, words, j);

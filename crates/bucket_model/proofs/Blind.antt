@@ -1,5 +1,5 @@
 -- The length decides nothing: runs from clear whose calls are alike but for their lengths are answered alike but for their lengths, and hold the same then but for these.
-use Rattle.laws.specs.Prelude.{BadRank, Bool, Done, Element, Full, Held, Idle, List, NoTag, Pop, Push, Refusal, Refused, Replace, [], ◌∙◌, ◌∷◌, ◌≡◌, ap, cond, false, length, length-map, ltb, map, not, refl, sym, true, untagged, ℕ}
+use Rattle.laws.specs.Prelude.{BadRank, Bool, Element, Full, Idle, List, NoTag, Pop, Push, Refusal, Replace, [], ◌∙◌, ◌∷◌, ◌≡◌, ap, cond, false, length, length-map, ltb, map, not, refl, sym, true, untagged, ℕ, Ok, None, Err}
 use Rattle.promise.specs.Prelude.{decided-same, ends, needs, short}
 use Rattle.bucket_model.specs.Prelude.{Blind, Call, Laid, Said, Shaped, Step, after, answered, ask, counted, held, insert, plain, plain_after, plain_pop, plain_replace, plain_says, plain_with, says, short_call, short_said, start, step, stored}
 use Rattle.bucket_model.specs.Layout.{Lay}
@@ -10,7 +10,7 @@ short_step x = step (short_said x.said) (map short x.next)
 
 -- a refusal leaves the list
 abbrev denied : List Element → Refusal → Step (List Element)
-denied l x = step (answered (Refused x)) l
+denied l x = step (answered (Err x)) l
 
 insert-short : (e : Element) (l : List Element) → insert (short e) (map short l) ≡ map short (insert e l)
 insert-short e [] = refl
@@ -36,12 +36,12 @@ plain-short k (ask Idle) l = refl
 plain-short k (ask (Push e)) l =
     rw (length-map l short)
     (decided-same (λ (x : Step (List Element)). x) short_step (denied (map short l)) (denied l) (needs BadRank (ltb e.rank.0 k.ranks) (Unit {0}) (needs NoTag (not (untagged e)) (Unit {0}) (needs Full (ltb (length l) k.nodes) (Unit {0}) ends)))
-    (step (answered Done) (insert (short e) (map short l))) (step (answered Done) (insert e l)) (λ x. refl) (ap (step (answered Done)) (insert-short e l)))
+    (step (answered (Ok None)) (insert (short e) (map short l))) (step (answered (Ok None)) (insert e l)) (λ x. refl) (ap (step (answered (Ok None))) (insert-short e l)))
 plain-short k (ask Pop) l = pop-short l
 plain-short k (ask (Replace e)) l =
     decided-same (λ (x : Step (List Element)). x) short_step (denied (map short l)) (denied l) (needs BadRank (ltb e.rank.0 k.ranks) (Unit {0}) (needs NoTag (not (untagged e)) (Unit {0}) ends))
     (plain_replace (short e) (map short l)) (plain_replace e l) (λ x. refl) (replace-short e l)
-plain-short k held l = ap (λ (n : ℕ). step (counted (Held n)) (map short l)) (length-map l short)
+plain-short k held l = ap (λ (n : ℕ). step (counted (Ok n)) (map short l)) (length-map l short)
 
 says-short : (k : Lay) (cs : List Call) (l : List Element) → plain_says k (map short_call cs) (map short l) ≡ map short_said (plain_says k cs l)
 unfolding plain_says

@@ -1,5 +1,5 @@
 -- A cleared store holds nothing.
-use Rattle.laws.specs.Prelude.{All, Done, List, [], ◌%◌, ◌+◌, ◌-◌, ◌/◌, ◌<◌, ◌^◌, ◌∙◌, ◌∷◌, ◌≡◌, ◌≤◌, ap, arith, eq-eqb, is-upd, le-ltb, length, lt-ltb, ne_eqb, pow-suc, refl, subst, suc, sym, upd, zero, ℕ, ⊎_elim}
+use Rattle.laws.specs.Prelude.{All, List, [], ◌%◌, ◌+◌, ◌-◌, ◌/◌, ◌<◌, ◌^◌, ◌∙◌, ◌∷◌, ◌≡◌, ◌≤◌, ap, arith, eq-eqb, is-upd, le-ltb, length, lt-ltb, ne_eqb, pow-suc, refl, subst, suc, sym, upd, zero, ℕ, ⊎_elim, Ok, None}
 use lib.Dec.{lit<}
 use Rattle.bitmap.specs.Bits.{bit_at}
 use Rattle.bucket_model.specs.Prelude.{Laid, Shaped, bit_words, blank_cell, blank_word, cell, cleared, fill, head_at, load_words, next_at, no_load, node_words, outcome, store_words, storeys_from, word, words_of}
@@ -174,6 +174,6 @@ module _ (k : Lay) (laid : Laid k) (b w : List ℕ) (H : Shaped k b w) where
         blank = fresh-blank k;
       }
 
-  pub clear-done : cleared k b w ≡ outcome Done B W
+  pub clear-done : cleared k b w ≡ outcome (Ok None) B W
   unfolding cleared
   clear-done = simp ((shape-means k b w).holds H)

@@ -1,5 +1,5 @@
 -- Every call is refused exactly when the table says so, and then leaves everything behind; and what else follows of every call from the table that decides it.
-use Rattle.laws.specs.Prelude.{Done, Element, Idle, List, Means, Pop, Push, Replace, Request, ◌≡◌, means-eqb, means-ltb, means-not, not, number_of, refl, untagged, ℕ}
+use Rattle.laws.specs.Prelude.{Element, Idle, List, Means, Pop, Push, Replace, Request, ◌≡◌, means-eqb, means-ltb, means-not, not, number_of, refl, untagged, ℕ, Ok, None}
 use Rattle.promise.proofs.Calls.{grants-zero}
 use Rattle.promise.proofs.Tabled as tabled
 use Rattle.promise.proofs.Tabled.{Goes}
@@ -17,7 +17,7 @@ pub tag-means : (e : Element) → Means (not (untagged e)) (e.tag.0 ≡ 0 → �
 tag-means e = means-not (untagged-means e)
 
 module _ (k : Lay) (b w : List ℕ) where
-  pub goes-clear : Goes said (λ x. refused x b w) (clear_table k b w) (outcome Done (fill (λ j. 0) (bit_words k) b) (fill (blank_word k) (store_words k) w)) (cleared k b w)
+  pub goes-clear : Goes said (λ x. refused x b w) (clear_table k b w) (outcome (Ok None) (fill (λ j. 0) (bit_words k) b) (fill (blank_word k) (store_words k) w)) (cleared k b w)
   unfolding cleared
   goes-clear = record { told = (shape-means k b w, λ _. tt); is = refl; done = refl; number = λ x. refl }
 

@@ -1,4 +1,5 @@
 -- A list filled from the front, one store a turn.
+use Rattle.std.proofs.Common.{◌++◌, drop, replicate}
 use Rattle.laws.specs.Prelude.{List, [], ◌+◌, ◌<◌, ◌∙◌, ◌∷◌, ◌≡◌, ◌≤◌, add-one, add-zero, ap, arith, le_of_suc-le-suc, length, not-suc-le-zero, refl, set, suc, sym, zero, ℕ}
 use Rattle.bucket_model.specs.Prelude.{fill, fill_from, word}
 
@@ -39,3 +40,13 @@ from_at f i (suc k) (x ∷ xs) (suc j) h l = from_at f (suc i) k xs j (le_of_suc
 pub fill-at : (f : ℕ → ℕ) (k : ℕ) (s : List ℕ) (j : ℕ) → j < k → k ≤ length s → word (fill f k s) j ≡ f j
 unfolding fill
 fill-at f k s j h l = from_at f 0 k s j h l ∙ ap f (omega arith)
+
+-- zeros in front of what was there behind them
+pub from-zeros : (i k : ℕ) (s : List ℕ) → k ≤ length s → replicate k 0 ++ drop k s ≡ fill_from (λ j. 0) i k s
+from-zeros i zero s h = refl
+from-zeros i (suc k) [] h = absurd (not-suc-le-zero h)
+from-zeros i (suc k) (x ∷ xs) h = ap (λ (l : List ℕ). 0 ∷ l) (from-zeros (suc i) k xs (le_of_suc-le-suc h))
+
+pub fill-zeros : (k : ℕ) (s : List ℕ) → k ≤ length s → replicate k 0 ++ drop k s ≡ fill (λ j. 0) k s
+unfolding fill
+fill-zeros k s h = from-zeros 0 k s h

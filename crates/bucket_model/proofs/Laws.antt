@@ -3,7 +3,7 @@ pub use Rattle.bucket_model.proofs.Chain.{Chain, Mine, Node, Seg}
 pub use Rattle.bucket_model.proofs.Clear.{blank-from, fresh-blank, fresh-free, fresh-linked, fresh-list, fresh_own, fresh_q}
 pub use Rattle.bucket_model.proofs.Exactly.{said, tag-means}
 pub use Rattle.bucket_model.proofs.Facts.{agree-means, clear-means, join-means, low-is, low-rank, pop-means, pop-way, shape-means, whole-means}
-pub use Rattle.bucket_model.proofs.Fill.{fill-at, fill-length, fill_none, fill_step}
+pub use Rattle.bucket_model.proofs.Fill.{fill-at, fill-length, fill_none, fill_step, fill-zeros, from-zeros}
 pub use Rattle.bucket_model.proofs.Joined.{joined-foreign}
 pub use Rattle.bucket_model.proofs.Linked.{Linked, last_from, last_link}
 pub use Rattle.bucket_model.proofs.Order.{order-else, order-none}

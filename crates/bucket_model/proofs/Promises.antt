@@ -1,5 +1,5 @@
 -- What the bucket queue promises, wherever its words are laid out and however many storeys it has.
-use Rattle.laws.specs.Prelude.{All, Bool, Done, Element, Empty, Idle, List, Out, Pop, Push, Refused, Replace, [], ◌++◌, ◌+◌, ◌<◌, ◌∙◌, ◌∷◌, ◌≡◌, ap, arith, false, length, ltb, means-off, subst, sym, untagged, ℕ}
+use Rattle.laws.specs.Prelude.{All, Bool, Element, Empty, Idle, List, Pop, Push, Replace, [], ◌++◌, ◌+◌, ◌<◌, ◌∙◌, ◌∷◌, ◌≡◌, ap, arith, false, length, ltb, means-off, subst, sym, untagged, ℕ, Ok, None, Some, Err}
 use Rattle.promise.specs.Prelude.{Untagged, untagged-means}
 use Rattle.bucket_model.specs.Prelude.{Call, FirstOut, Laid, Outcome, Reached, Reused, Shaped, Sorted, Store, after, answered, ask, asked, brought, called, gone, head_at, held, joined_bits, joined_words, lowest_of, of_rank, outcome, plain, plain_after, plain_says, plain_with, popped, queue, room_of, said_number, says, start, store, stored, tail_at, taken_bits, taken_words, times, word}
 use Rattle.bucket_model.specs.Layout.{Lay}
@@ -81,20 +81,20 @@ module _ (k : Lay) (laid : Laid k) where
   )
 
   -- a pop that gives x was of a store that holds x first
-  module _ (s : Store) (x : Element) (l : List Element) (h : Holds k laid s.bits s.words l) (a : (asked k Pop s).answer ≡ Out x) where
+  module _ (s : Store) (x : Element) (l : List Element) (h : Holds k laid s.bits s.words l) (a : (asked k Pop s).answer ≡ Ok (Some x)) where
     pop-some : word s.words k.held ≡ 0 → ⊥
     unfolding called plain_with
     pop-some z =
-        let p : answered (asked k Pop s).answer ≡ answered (Refused Empty) = subst (λ (l : List Element). (h : Holds k laid s.bits s.words l) → answered (asked k Pop s).answer ≡ (plain k (ask Pop) l).said) (empty-list k laid s l h z) (λ h. (calls k laid s l h (ask Pop)).alike) (subst (Holds k laid s.bits s.words) (empty-list k laid s l h z) h) in
+        let p : answered (asked k Pop s).answer ≡ answered (Err Empty) = subst (λ (l : List Element). (h : Holds k laid s.bits s.words l) → answered (asked k Pop s).answer ≡ (plain k (ask Pop) l).said) (empty-list k laid s l h z) (λ h. (calls k laid s l h (ask Pop)).alike) (subst (Holds k laid s.bits s.words) (empty-list k laid s l h z) h) in
         let y : ◌≡◌ {A = ℕ} 0 1 = cc in
         omega arith
 
     pop-gives : (y : Element) (l' : List Element) → Popped k (alone k laid) 0 s.bits s.words l h y l' → y ≡ x
     unfolding asked
-    pop-gives y l' p = let e : Out y ≡ Out x = sym (ap (λ (o : Outcome). o.answer) (pop-is k laid s l h pop-some y l' p)) ∙ a in cc
+    pop-gives y l' p = let e : Ok (Some y) ≡ Ok (Some x) = sym (ap (λ (o : Outcome). o.answer) (pop-is k laid s l h pop-some y l' p)) ∙ a in cc
 
   -- what a pop gives
-  pub least : (s : Store) (x : Element) → Reached k s → (asked k Pop s).answer ≡ Out x → FirstOut k s x
+  pub least : (s : Store) (x : Element) → Reached k s → (asked k Pop s).answer ≡ Ok (Some x) → FirstOut k s x
   unfolding asked
   least s x r a = go (reached-holds s r).0 (reached-holds s r).1 (reached-holds s r).2
     where
@@ -134,7 +134,7 @@ module _ (k : Lay) (laid : Laid k) where
     again : word w1 k.held ≡ k.nodes → ⊥
     again = room-again k laid s l h some x l' p e r<
 
-    pushed-on : asked k (Push e) (store b1 w1) ≡ outcome Done (joined_bits k b1 e (room_of k b1 w1 e.rank.0)) (joined_words k w1 e (room_of k b1 w1 e.rank.0))
+    pushed-on : asked k (Push e) (store b1 w1) ≡ outcome (Ok None) (joined_bits k b1 e (room_of k b1 w1 e.rank.0)) (joined_words k w1 e (room_of k b1 w1 e.rank.0))
     unfolding asked
     pushed-on = push-is k laid (store b1 w1) l' p.after e r< t again (pushes k (alone k laid) 0 b1 w1 l' p.after e r< (word w1 k.held) (omega (arith, p.after.held)) again)
 
@@ -146,7 +146,7 @@ module _ (k : Lay) (laid : Laid k) where
           node = ap (λ (o : Outcome). word o.words (tail_at k e.rank.0)) pushed-on ∙ joined-tail k laid w1 e (room_of k b1 w1 e.rank.0) r< p.after.shaped.words ∙ freed;
         }
 
-  pub reuse : (s : Store) (x e : Element) → Reached k s → (asked k Pop s).answer ≡ Out x → e.rank.0 < k.ranks → (Untagged (Push e) → ⊥) → Reused k s (store (asked k Pop s).bits (asked k Pop s).words) x e
+  pub reuse : (s : Store) (x e : Element) → Reached k s → (asked k Pop s).answer ≡ Ok (Some x) → e.rank.0 < k.ranks → (Untagged (Push e) → ⊥) → Reused k s (store (asked k Pop s).bits (asked k Pop s).words) x e
   unfolding asked
   reuse s x e r a r< t = go (reached-holds s r).0 (reached-holds s r).2
     where

@@ -1,8 +1,8 @@
 -- Replace is a pop, and then a push on the store that the pop leaves, word for word: for all inputs.
-use Rattle.laws.specs.Prelude.{Answer, BadRank, BadShape, Damaged, Done, Element, Empty, First, Iff, List, NoTag, Out, Pop, Push, Replace, ◌<◌, ◌∙◌, ◌≡◌, ap, arith, fine, inl, inr, number_of, refl, refusal_number, sym, true, ℕ, ⊎_elim}
+use Rattle.laws.specs.Prelude.{Answer, BadRank, BadShape, Damaged, Element, Empty, First, Iff, List, NoTag, Pop, Push, Replace, ◌<◌, ◌∙◌, ◌≡◌, ap, arith, fine, inl, inr, number_of, refl, refusal_number, sym, true, ℕ, ⊎_elim, Ok, None, Some}
 use Rattle.promise.proofs.Tabled.{Passed, granted, passes}
 use Rattle.promise.specs.Prelude.{Untagged, ladder}
-use Rattle.bucket_model.specs.Prelude.{Laid, Outcome, Reached, Shaped, Some, Store, Whole, asked, bits_after, call_table, given, is_whole, joined_bits, joined_words, lowest_of, outcome, pop_leaves, room_after, room_of, store, words_after}
+use Rattle.bucket_model.specs.Prelude.{Laid, Outcome, Reached, Shaped, HoldsSome, Store, Whole, asked, bits_after, call_table, given, is_whole, joined_bits, joined_words, lowest_of, outcome, pop_leaves, room_after, room_of, store, words_after}
 use Rattle.bucket_model.specs.Layout.{Lay}
 use Rattle.bucket_model.specs.Calls.{Room}
 use Rattle.bucket_model.proofs.Exactly.{exactly-pop, exactly-replace, goes}
@@ -36,32 +36,32 @@ module _ (k : Lay) (s : Store) where
 
   module _ (e x : Element) where
     -- what a replace that gives something has asked: a pop asks no more
-    swaps : (asked k (Replace e) s).answer ≡ Out x → Passed (call_table k s.bits s.words (Replace e))
+    swaps : (asked k (Replace e) s).answer ≡ Ok (Some x) → Passed (call_table k s.bits s.words (Replace e))
     swaps a = granted (goes k b w (Replace e)) (ap number_of a)
 
     abbrev as-pop : Passed (call_table k s.bits s.words (Replace e)) → Passed (call_table k s.bits s.words Pop)
     as-pop p = let g = p.1.1.1 in (p.0, (g.0, (g.1.0, (g.1.1.0, tt))))
 
     -- what a replace gives is what a pop gives
-    pub replace-answers : (asked k (Replace e) s).answer ≡ Out x → (asked k Pop s).answer ≡ Out x
+    pub replace-answers : (asked k (Replace e) s).answer ≡ Ok (Some x) → (asked k Pop s).answer ≡ Ok (Some x)
     replace-answers a =
         ap (λ (o : Outcome). o.answer) (passes (goes k b w Pop) (as-pop (swaps a))) ∙ sym (ap (λ (o : Outcome). o.answer) (passes (goes k b w (Replace e)) (swaps a))) ∙ a
 
     -- "a replace is a pop and then a push": the pop's answer, and what the push leaves of the store that the pop left, wherever that push is done
-    pub replace-both : (asked k Pop s).answer ≡ Out x → (asked k (Push e) (pop_leaves k s)).answer ≡ Done → asked k (Replace e) s ≡ outcome (Out x) (asked k (Push e) (pop_leaves k s)).bits (asked k (Push e) (pop_leaves k s)).words
+    pub replace-both : (asked k Pop s).answer ≡ Ok (Some x) → (asked k (Push e) (pop_leaves k s)).answer ≡ Ok None → asked k (Replace e) s ≡ outcome (Ok (Some x)) (asked k (Push e) (pop_leaves k s)).bits (asked k (Push e) (pop_leaves k s)).words
     replace-both a d =
         let p = granted (goes k b w Pop) (ap number_of a) in
         let l = pop-leaves p in
         let t = granted (goes k B W (Push e)) (ap (λ (v : Store). number_of (asked k (Push e) v).answer) (sym l) ∙ ap number_of d) in
         let h = t.1.1.1 in
         passes (goes k b w (Replace e)) (p.0, (t.1.0, (t.1.1.0, (p.1.0, (p.1.1.0, (p.1.1.1.0, ((h.0, h.1.1.0), tt)))))))
-        ∙ ap (λ (v : Room). outcome (Out (given k w (lowest_of k b w))) (joined_bits k B e v) (joined_words k W e v)) (same-room k B W e ((whole-means k B W).holds h.0))
+        ∙ ap (λ (v : Room). outcome (Ok (Some (given k w (lowest_of k b w)))) (joined_bits k B e v) (joined_words k W e v)) (same-room k B W e ((whole-means k B W).holds h.0))
         ∙ ap (λ (y : Answer). outcome y (joined_bits k B e (room_of k B W e.rank.0)) (joined_words k W e (room_of k B W e.rank.0))) (sym (ap (λ (o : Outcome). o.answer) (passes (goes k b w Pop) p)) ∙ a)
-        ∙ ap (λ (o : Outcome). outcome (Out x) o.bits o.words) (sym (passes (goes k B W (Push e)) t))
-        ∙ ap (λ (v : Store). outcome (Out x) (asked k (Push e) v).bits (asked k (Push e) v).words) (sym l)
+        ∙ ap (λ (o : Outcome). outcome (Ok (Some x)) o.bits o.words) (sym (passes (goes k B W (Push e)) t))
+        ∙ ap (λ (v : Store). outcome (Ok (Some x)) (asked k (Push e) v).bits (asked k (Push e) v).words) (sym l)
 
     -- .. and it is done exactly where the replace gives something
-    pub replace-pushes : Laid k → (asked k (Replace e) s).answer ≡ Out x → (asked k (Push e) (pop_leaves k s)).answer ≡ Done
+    pub replace-pushes : Laid k → (asked k (Replace e) s).answer ≡ Ok (Some x) → (asked k (Push e) (pop_leaves k s)).answer ≡ Ok None
     replace-pushes laid a =
         let p = swaps a in
         let g = p.1.1.1 in
@@ -74,8 +74,8 @@ module _ (k : Lay) (s : Store) where
         ))
 
 -- .. so on a store that the queue's own calls lead to always
-pub replace-swaps : (k : Lay) → Laid k → (s : Store) (e x : Element) → Reached k s → e.rank.0 < k.ranks → (Untagged (Replace e) → ⊥) → (asked k Pop s).answer ≡ Out x
-    → asked k (Replace e) s ≡ outcome (Out x) (asked k (Push e) (pop_leaves k s)).bits (asked k (Push e) (pop_leaves k s)).words
+pub replace-swaps : (k : Lay) → Laid k → (s : Store) (e x : Element) → Reached k s → e.rank.0 < k.ranks → (Untagged (Replace e) → ⊥) → (asked k Pop s).answer ≡ Ok (Some x)
+    → asked k (Replace e) s ≡ outcome (Ok (Some x)) (asked k (Push e) (pop_leaves k s)).bits (asked k (Push e) (pop_leaves k s)).words
 replace-swaps k laid s e x h e< t a = replace-both k s e x a (reuse k laid s x e h a e< t).taken
 
 -- ---- "an empty queue refuses replace with 6"; "The order of checks puts replace's 6 with pop's"
@@ -95,7 +95,7 @@ no-untagged e = let z : ◌≡◌ {A = ℕ} 6 7 = ap refusal_number e in omega a
 module _ (k : Lay) (b w : List ℕ) where
   -- both say 6 of a store that is whole, with nothing held
   abbrev Bare : Type 0
-  Bare = Shaped k b w × Whole k b w × (Some k b w → ⊥)
+  Bare = Shaped k b w × Whole k b w × (HoldsSome k b w → ⊥)
 
   pop-bare : First (ladder (call_table k b w Pop) fine) Empty → Bare
   pop-bare u =

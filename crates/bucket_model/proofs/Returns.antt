@@ -1,5 +1,5 @@
 -- Each answer of each call, from what the call has tested.
-use Rattle.laws.specs.Prelude.{BadRank, BadShape, Bool, Damaged, Done, Element, Empty, Full, Held, List, NoTag, Out, Refusal, Unknown, ◌&&◌, ◌<◌, ◌≡◌, ◌≤◌, ap, cond, eq-eqb, eqb, false, false≢true, le-ltb, lt-ltb, ltb, ne_eqb, not, sym, true, untagged, ℕ}
+use Rattle.laws.specs.Prelude.{BadRank, BadShape, Bool, Damaged, Element, Empty, Full, List, NoTag, Refusal, ◌&&◌, ◌<◌, ◌≡◌, ◌≤◌, ap, cond, eq-eqb, eqb, false, false≢true, le-ltb, lt-ltb, ltb, ne_eqb, not, sym, true, untagged, ℕ, Ok, Err, None, Some}
 use Rattle.bucket_model.specs.Prelude.{Outcome, bit_words, blank_word, cleared, fill, given, held_count, is_shaped, is_whole, joined_bits, joined_words, lowest_of, outcome, pop_found, popped, push_found, pushed, refused, replace_found, replace_joined, replaced, room_after, room_of, store_words, taken_bits, taken_words, word}
 use Rattle.bucket_model.specs.Layout.{Lay}
 use Rattle.bucket_model.specs.Calls.{Lowest, Room}
@@ -17,21 +17,21 @@ module _ (k : Lay) (b w : List ℕ) where
   unfolding cleared
   clear-bad s = simp s
 
-  pub clear-done : (b' w' : List ℕ) → is_shaped k b w ≡ true → b' ≡ fill (λ j. 0) (bit_words k) b → w' ≡ fill (blank_word k) (store_words k) w → outcome Done b' w' ≡ cleared k b w
+  pub clear-done : (b' w' : List ℕ) → is_shaped k b w ≡ true → b' ≡ fill (λ j. 0) (bit_words k) b → w' ≡ fill (blank_word k) (store_words k) w → outcome (Ok None) b' w' ≡ cleared k b w
   unfolding cleared
   clear-done b' w' s p q = simp (s, p, q)
 
   -- ---- held
 
-  pub held-bad : is_shaped k b w ≡ false → Unknown BadShape ≡ held_count k b w
+  pub held-bad : is_shaped k b w ≡ false → Err BadShape ≡ held_count k b w
   unfolding held_count
   held-bad s = simp s
 
-  pub held-torn : is_shaped k b w ≡ true → is_whole k b w ≡ false → Unknown Damaged ≡ held_count k b w
+  pub held-torn : is_shaped k b w ≡ true → is_whole k b w ≡ false → Err Damaged ≡ held_count k b w
   unfolding held_count
   held-torn s j = simp (s, j)
 
-  pub held-told : (h : ℕ) → is_shaped k b w ≡ true → is_whole k b w ≡ true → h ≡ word w k.held → Held h ≡ held_count k b w
+  pub held-told : (h : ℕ) → is_shaped k b w ≡ true → is_whole k b w ≡ true → h ≡ word w k.held → Ok h ≡ held_count k b w
   unfolding held_count
   held-told h s j e = simp (s, j, e)
 
@@ -57,7 +57,7 @@ module _ (k : Lay) (b w : List ℕ) where
         pop-unfit g = simp (s, j, ne_eqb _ _ z, ← e, g)
 
         pub pop-out : (y : Element) (b' w' : List ℕ) → low.good ≡ true → y ≡ given k w low → b' ≡ taken_bits k b low → w' ≡ taken_words k w low
-            → outcome (Out y) b' w' ≡ popped k b w
+            → outcome (Ok (Some y)) b' w' ≡ popped k b w
         unfolding popped pop_found
         pop-out y b' w' g u p q = simp (s, j, ne_eqb _ _ z, ← e, g, u, p, q)
 
@@ -97,7 +97,7 @@ module _ (k : Lay) (b w : List ℕ) where
               unfolding pushed push_found
               push-unfit g = simp (s, lt-ltb _ _ l, t, j, ne_eqb _ _ z, ← e, g)
 
-              pub push-done : (b' w' : List ℕ) → to.good ≡ true → b' ≡ joined_bits k b x to → w' ≡ joined_words k w x to → outcome Done b' w' ≡ pushed k b w x
+              pub push-done : (b' w' : List ℕ) → to.good ≡ true → b' ≡ joined_bits k b x to → w' ≡ joined_words k w x to → outcome (Ok None) b' w' ≡ pushed k b w x
               unfolding pushed push_found
               push-done b' w' g p q = simp (s, lt-ltb _ _ l, t, j, ne_eqb _ _ z, ← e, g, p, q)
 
@@ -143,6 +143,6 @@ module _ (k : Lay) (b w : List ℕ) where
                 replace-shut u = simp (s, lt-ltb _ _ l, t, j, ne_eqb _ _ z, ← e, g, ← f, u)
 
                 pub replace-out : (y : Element) (b1 w1 b' w' : List ℕ) → to.good ≡ true → y ≡ given k w low → b1 ≡ taken_bits k b low → w1 ≡ taken_words k w low
-                    → b' ≡ joined_bits k b1 x to → w' ≡ joined_words k w1 x to → outcome (Out y) b' w' ≡ replaced k b w x
+                    → b' ≡ joined_bits k b1 x to → w' ≡ joined_words k w1 x to → outcome (Ok (Some y)) b' w' ≡ replaced k b w x
                 unfolding replaced replace_found replace_joined
                 replace-out y b1 w1 b' w' v u p1 q1 p q = simp (s, lt-ltb _ _ l, t, j, ne_eqb _ _ z, ← e, g, ← f, v, u, p, q, p1, q1)

@@ -1,5 +1,5 @@
 -- A store that holds a list does what the plain list does, call by call, and its list is read off its words.
-use Rattle.laws.specs.Prelude.{All, BadRank, Bool, Done, Element, Empty, Full, Idle, List, NoTag, Out, Pop, Push, Refused, Replace, [], ◌<◌, ◌∙◌, ◌∷◌, ◌≡◌, ◌≤◌, ap, arith, dec_lt, false, le-ltb, length, lt-ltb, ltb, refl, subst, suc, sym, true, untagged, zero, ℕ, ℕ_discrete}
+use Rattle.laws.specs.Prelude.{All, BadRank, Bool, Element, Empty, Full, Idle, List, NoTag, Pop, Push, Replace, [], ◌<◌, ◌∙◌, ◌∷◌, ◌≡◌, ◌≤◌, ap, arith, dec_lt, false, le-ltb, length, lt-ltb, ltb, refl, subst, suc, sym, true, untagged, zero, ℕ, ℕ_discrete, Ok, None, Some, Err}
 use Rattle.bucket_model.specs.Prelude.{Call, Laid, Load, Outcome, Said, Step, Store, after, answered, ask, asked, called, counted, head_at, held, insert, is_shaped, is_whole, joined_bits, joined_words, lane, load_in, lowest_of, next_in, outcome, plain, plain_after, plain_pop, plain_replace, plain_says, plain_with, popped, pushed, refused, replaced, room_after, room_of, roomy, says, step, store, stored, tagged, taken_bits, taken_words, walk, word}
 use Rattle.bucket_model.specs.Layout.{Lay}
 use Rattle.bucket_model.specs.Calls.{Room}
@@ -88,34 +88,34 @@ module _ (k : Lay) (laid : Laid k) where
     -- ---- push
 
     module _ (e : Element) (r< : e.rank.0 < k.ranks) (t : untagged e ≡ false) where
-      pub push-is : (word w k.held ≡ k.nodes → ⊥) → Pushed k (alone k laid) 0 b w l h e r< (word w k.held) → pushed k b w e ≡ outcome Done (joined_bits k b e (room_of k b w e.rank.0)) (joined_words k w e (room_of k b w e.rank.0))
+      pub push-is : (word w k.held ≡ k.nodes → ⊥) → Pushed k (alone k laid) 0 b w l h e r< (word w k.held) → pushed k b w e ≡ outcome (Ok None) (joined_bits k b e (room_of k b w e.rank.0)) (joined_words k w e (room_of k b w e.rank.0))
       push-is f p = sym (told.push-done k b w e shape-ok r< t whole-ok f (room_of k b w e.rank.0) refl _ _ ((push-means k b w e.rank.0).holds p.fit) refl refl)
 
-      push-agrees : Agree (ran (pushed k b w e)) (roomy (ltb (length l) k.nodes) l (step (answered Done) (insert e l)))
+      push-agrees : Agree (ran (pushed k b w e)) (roomy (ltb (length l) k.nodes) l (step (answered (Ok None)) (insert e l)))
       push-agrees = elim (ℕ_discrete (word w k.held) k.nodes) [ yes f ↦ full f | no f ↦ taken f (pushes k (alone k laid) 0 b w l h e r< (word w k.held) (omega (arith, h.held)) f) ]
         where
-          full : word w k.held ≡ k.nodes → Agree (ran (pushed k b w e)) (roomy (ltb (length l) k.nodes) l (step (answered Done) (insert e l)))
+          full : word w k.held ≡ k.nodes → Agree (ran (pushed k b w e)) (roomy (ltb (length l) k.nodes) l (step (answered (Ok None)) (insert e l)))
           full f =
               rw (le-ltb (length l) k.nodes (omega (arith, h.held)))
-              (by (pushed k b w e) (refused Full b w) (step (answered (Refused Full)) l) (sym (told.push-full k b w e shape-ok r< t whole-ok f)) (stays (answered (Refused Full))))
+              (by (pushed k b w e) (refused Full b w) (step (answered (Err Full)) l) (sym (told.push-full k b w e shape-ok r< t whole-ok f)) (stays (answered (Err Full))))
 
-          taken : (word w k.held ≡ k.nodes → ⊥) → Pushed k (alone k laid) 0 b w l h e r< (word w k.held) → Agree (ran (pushed k b w e)) (roomy (ltb (length l) k.nodes) l (step (answered Done) (insert e l)))
+          taken : (word w k.held ≡ k.nodes → ⊥) → Pushed k (alone k laid) 0 b w l h e r< (word w k.held) → Agree (ran (pushed k b w e)) (roomy (ltb (length l) k.nodes) l (step (answered (Ok None)) (insert e l)))
           taken f p =
               rw (lt-ltb (length l) k.nodes (omega (arith, h.held, h.room)))
-              (by (pushed k b w e) _ (step (answered Done) (insert e l)) (push-is f p) (record { alike = refl; holds = p.after }))
+              (by (pushed k b w e) _ (step (answered (Ok None)) (insert e l)) (push-is f p) (record { alike = refl; holds = p.after }))
 
     call-push : (e : Element) → Agree (ran (pushed k b w e)) (plain k (ask (Push e)) l)
     unfolding plain_with
     call-push e = elim (dec_lt e.rank.0 k.ranks) [
       | yes r< ↦ rw (lt-ltb e.rank.0 k.ranks r<) (go r< (untagged e) refl)
-      | no r< ↦ rw (le-ltb e.rank.0 k.ranks (omega arith)) (by (pushed k b w e) (refused BadRank b w) (step (answered (Refused BadRank)) l) (sym (told.push-high k b w e shape-ok (omega arith))) (stays (answered (Refused BadRank))))
+      | no r< ↦ rw (le-ltb e.rank.0 k.ranks (omega arith)) (by (pushed k b w e) (refused BadRank b w) (step (answered (Err BadRank)) l) (sym (told.push-high k b w e shape-ok (omega arith))) (stays (answered (Err BadRank))))
     ]
       where
         put : Step (List Element)
-        put = roomy (ltb (length l) k.nodes) l (step (answered Done) (insert e l))
+        put = roomy (ltb (length l) k.nodes) l (step (answered (Ok None)) (insert e l))
 
         go : e.rank.0 < k.ranks → (t : Bool) → untagged e ≡ t → Agree (ran (pushed k b w e)) (tagged e l put)
-        go r< true t = rw t (by (pushed k b w e) (refused NoTag b w) (step (answered (Refused NoTag)) l) (sym (told.push-untagged k b w e shape-ok r< t)) (stays (answered (Refused NoTag))))
+        go r< true t = rw t (by (pushed k b w e) (refused NoTag b w) (step (answered (Err NoTag)) l) (sym (told.push-untagged k b w e shape-ok r< t)) (stays (answered (Err NoTag))))
         go r< false t = rw t (push-agrees e r< t)
 
     -- ---- pop, and replace with something held
@@ -130,8 +130,8 @@ module _ (k : Lay) (laid : Laid k) where
       good : (lowest_of k b w).good ≡ true
       good = (pop-means k b w).holds p.fit
 
-      pub pop-is : popped k b w ≡ outcome (Out x) (taken_bits k b (lowest_of k b w)) (taken_words k w (lowest_of k b w))
-      pop-is = sym (told.pop-out k b w shape-ok whole-ok some (lowest_of k b w) refl _ _ _ good refl refl refl) ∙ ap (λ (y : Element). outcome (Out y) B W) p.gives
+      pub pop-is : popped k b w ≡ outcome (Ok (Some x)) (taken_bits k b (lowest_of k b w)) (taken_words k w (lowest_of k b w))
+      pop-is = sym (told.pop-out k b w shape-ok whole-ok some (lowest_of k b w) refl _ _ _ good refl refl refl) ∙ ap (λ (y : Element). outcome (Ok (Some y)) B W) p.gives
 
       module _ (e : Element) (r< : e.rank.0 < k.ranks) where
         -- the bucket as replace reads it is the bucket as push reads it
@@ -139,12 +139,12 @@ module _ (k : Lay) (laid : Laid k) where
         unfolding room_after
         room-same = let t = (whole-means k B W).holds (whole k laid B W l' p.after) in simp t
 
-        pub swap_is : untagged e ≡ false → Pushed k (alone k laid) 0 B W l' p.after e r< (word W k.held) → replaced k b w e ≡ outcome (Out x) (joined_bits k B e (room_of k B W e.rank.0)) (joined_words k W e (room_of k B W e.rank.0))
+        pub swap_is : untagged e ≡ false → Pushed k (alone k laid) 0 B W l' p.after e r< (word W k.held) → replaced k b w e ≡ outcome (Ok (Some x)) (joined_bits k B e (room_of k B W e.rank.0)) (joined_words k W e (room_of k B W e.rank.0))
         swap_is t u =
             let to = room_after k B W e.rank.0 in
             sym (told.replace-out k b w e shape-ok r< t whole-ok some (lowest_of k b w) refl good to refl _ _ _ _ _ ((room-means k B W e.rank.0).holds (whole k laid B W l' p.after, u.fit)) refl refl refl refl refl)
-            ∙ ap (λ (y : Element). outcome (Out y) (joined_bits k B e to) (joined_words k W e to)) p.gives
-            ∙ ap (λ (v : Room). outcome (Out x) (joined_bits k B e v) (joined_words k W e v)) room-same
+            ∙ ap (λ (y : Element). outcome (Ok (Some y)) (joined_bits k B e to) (joined_words k W e to)) p.gives
+            ∙ ap (λ (v : Room). outcome (Ok (Some x)) (joined_bits k B e v) (joined_words k W e v)) room-same
 
         -- the freed node makes room
         pub room-again : word W k.held ≡ k.nodes → ⊥
@@ -153,21 +153,21 @@ module _ (k : Lay) (laid : Laid k) where
         swap-agrees : untagged e ≡ false → Agree (ran (replaced k b w e)) (plain_replace e (x ∷ l'))
         swap-agrees t =
             let u = pushes k (alone k laid) 0 B W l' p.after e r< (word W k.held) (omega (arith, p.after.held)) room-again in
-            by (replaced k b w e) _ (step (answered (Out x)) (insert e l')) (swap_is t u) (record { alike = refl; holds = u.after })
+            by (replaced k b w e) _ (step (answered (Ok (Some x))) (insert e l')) (swap_is t u) (record { alike = refl; holds = u.after })
 
     call-pop : Agree (ran (popped k b w)) (plain_pop l)
     call-pop = elim (ℕ_discrete (word w k.held) 0) [
-      | yes z ↦ rw (empty-list z) (by (popped k b w) (refused Empty b w) (step (answered (Refused Empty)) []) (sym (told.pop-none k b w shape-ok whole-ok z)) (record { alike = refl; holds = subst (Holds k laid b w) (empty-list z) h }))
+      | yes z ↦ rw (empty-list z) (by (popped k b w) (refused Empty b w) (step (answered (Err Empty)) []) (sym (told.pop-none k b w shape-ok whole-ok z)) (record { alike = refl; holds = subst (Holds k laid b w) (empty-list z) h }))
       | no z ↦ some z (pops k (alone k laid) 0 b w l h z)
     ]
       where
         some : (word w k.held ≡ 0 → ⊥) → (x : Element) × (l' : List Element) × Popped k (alone k laid) 0 b w l h x l' → Agree (ran (popped k b w)) (plain_pop l)
         some z y =
-            rw y.2.list (by (popped k b w) _ (step (answered (Out y.0)) y.1) (pop-is z y.0 y.1 y.2) (record { alike = refl; holds = y.2.after }))
+            rw y.2.list (by (popped k b w) _ (step (answered (Ok (Some y.0))) y.1) (pop-is z y.0 y.1 y.2) (record { alike = refl; holds = y.2.after }))
 
     replace-agrees : (e : Element) → e.rank.0 < k.ranks → untagged e ≡ false → Agree (ran (replaced k b w e)) (plain_replace e l)
     replace-agrees e r< t = elim (ℕ_discrete (word w k.held) 0) [
-      | yes z ↦ rw (empty-list z) (by (replaced k b w e) (refused Empty b w) (step (answered (Refused Empty)) []) (sym (told.replace-none k b w e shape-ok r< t whole-ok z)) (record { alike = refl; holds = subst (Holds k laid b w) (empty-list z) h }))
+      | yes z ↦ rw (empty-list z) (by (replaced k b w e) (refused Empty b w) (step (answered (Err Empty)) []) (sym (told.replace-none k b w e shape-ok r< t whole-ok z)) (record { alike = refl; holds = subst (Holds k laid b w) (empty-list z) h }))
       | no z ↦ some z (pops k (alone k laid) 0 b w l h z)
     ]
       where
@@ -178,17 +178,17 @@ module _ (k : Lay) (laid : Laid k) where
     unfolding plain_with
     call-replace e = elim (dec_lt e.rank.0 k.ranks) [
       | yes r< ↦ rw (lt-ltb e.rank.0 k.ranks r<) (go r< (untagged e) refl)
-      | no r< ↦ rw (le-ltb e.rank.0 k.ranks (omega arith)) (by (replaced k b w e) (refused BadRank b w) (step (answered (Refused BadRank)) l) (sym (told.replace-high k b w e shape-ok (omega arith))) (stays (answered (Refused BadRank))))
+      | no r< ↦ rw (le-ltb e.rank.0 k.ranks (omega arith)) (by (replaced k b w e) (refused BadRank b w) (step (answered (Err BadRank)) l) (sym (told.replace-high k b w e shape-ok (omega arith))) (stays (answered (Err BadRank))))
     ]
       where
         go : e.rank.0 < k.ranks → (t : Bool) → untagged e ≡ t → Agree (ran (replaced k b w e)) (tagged e l (plain_replace e l))
-        go r< true t = rw t (by (replaced k b w e) (refused NoTag b w) (step (answered (Refused NoTag)) l) (sym (told.replace-untagged k b w e shape-ok r< t)) (stays (answered (Refused NoTag))))
+        go r< true t = rw t (by (replaced k b w e) (refused NoTag b w) (step (answered (Err NoTag)) l) (sym (told.replace-untagged k b w e shape-ok r< t)) (stays (answered (Err NoTag))))
         go r< false t = rw t (replace-agrees e r< t)
 
     -- every call
     pub calls : (c : Call) → Agree (called k c s) (plain k c l)
     unfolding called asked plain_with
-    calls (ask Idle) = stays (answered Done)
+    calls (ask Idle) = stays (answered (Ok None))
     calls (ask (Push e)) = call-push e
     calls (ask Pop) = call-pop
     calls (ask (Replace e)) = call-replace e

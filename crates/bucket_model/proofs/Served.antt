@@ -1,5 +1,5 @@
 -- What goes in and out and what is least, in 01's numbers: by the number of an answer, its rank, its tag and its length.
-use Rattle.laws.specs.Prelude.{All, Answer, Bool, Count, Done, Element, Held, Idle, List, Out, Pop, Push, Refused, Replace, Request, [], ◌+◌, ◌∙◌, ◌∷◌, ◌≡◌, ◌≤◌, ap, arith, cond, count_number, count_of, false, le-ltb, length, ltb, means-off, number_of, rank_of, refl, suc, sym, true, untagged, zero, ℕ}
+use Rattle.laws.specs.Prelude.{All, Answer, Bool, Element, Idle, List, Pop, Push, Replace, Request, [], ◌+◌, ◌∙◌, ◌∷◌, ◌≡◌, ◌≤◌, ap, arith, cond, count_number, count_of, false, le-ltb, length, ltb, means-off, number_of, rank_of, refl, suc, sym, true, untagged, zero, ℕ, Result, Refusal, Ok, None, Some, Err}
 use Rattle.promise.proofs.Kept.{none-moved}
 use Rattle.promise.specs.Queue as served
 use Rattle.promise.specs.Prelude.{Barred, IsOut, Least, Tagged, all-sum, brought, given, hit, lower, tagged-by, untagged-means}
@@ -16,7 +16,7 @@ use Rattle.bucket_model.proofs.Replace.{replace-answers}
 
 abbrev pub answer_of : Said → Answer
 answer_of (answered a) = a
-answer_of (counted c) = Done
+answer_of (counted c) = Ok None
 
 hit-is : (t : Bool) → cond t 1 0 ≡ hit t
 hit-is true = refl
@@ -57,10 +57,10 @@ none-lower r [] a = refl
 none-lower r (y ∷ l) a = rw (le-ltb y.rank.0 r a.0) (omega (arith, none-lower r l a.1))
 
 -- an answer that is an element has its rank
-pub least-out : (many : (Element → Bool) → ℕ) (a : Answer) → IsOut a → ((x : Element) → a ≡ Out x → many (lower x.rank.0) ≡ 0) → many (lower (rank_of a)) ≡ 0
-least-out many Done o f = absurd o
-least-out many (Out x) o f = f x refl
-least-out many (Refused r) o f = absurd o
+pub least-out : (many : (Element → Bool) → ℕ) (a : Answer) → IsOut a → ((x : Element) → a ≡ Ok (Some x) → many (lower x.rank.0) ≡ 0) → many (lower (rank_of a)) ≡ 0
+least-out many (Ok None) o f = absurd o
+least-out many (Ok (Some x)) o f = f x refl
+least-out many (Err r) o f = absurd o
 
 -- ---- on the words
 
@@ -121,12 +121,12 @@ module _ (k : Lay) (laid : Laid k) where
       least-out (stored_by k s) (asked k (Replace e) s).answer (kind k (Replace e) s n) (λ x p. none-lower x.rank.0 (stored k s.words) (least k laid s x h (replace-answers k s e x p)).lowest)
 
   -- held says how many are held: number 0, and so many
-  counted_same : (c d : Count) → counted c ≡ counted d → c ≡ d
+  counted_same : (c d : Result ℕ Refusal) → counted c ≡ counted d → c ≡ d
   counted_same c d e = cc
 
   pub held-says : (s : Store) → Reached k s → (count_number (held_count k s.bits s.words) ≡ 0) × (count_of (held_count k s.bits s.words) ≡ length (stored k s.words))
   unfolding called plain_with
   held-says s r =
       let y = reached-holds k laid s r in
-      let e : held_count k s.bits s.words ≡ Held (length y.0) = counted_same _ _ (calls k laid s y.0 y.2 held).alike in
+      let e : held_count k s.bits s.words ≡ Ok (length y.0) = counted_same _ _ (calls k laid s y.0 y.2 held).alike in
       (ap count_number e, ap count_of e ∙ ap length (sym (stored_is k (alone k laid) 0 s.bits s.words y.0 y.2)))

@@ -1,5 +1,5 @@
 -- The plain list, one call after another: in leaving order, first in first out within a rank, nothing lost.
-use Rattle.laws.specs.Prelude.{All, BadRank, Bool, Done, Element, Empty, Full, Held, Idle, List, NoTag, Out, Pop, Push, Refusal, Refused, Replace, [], ◌++◌, ◌+◌, ◌<◌, ◌∙◌, ◌∷◌, ◌≡◌, ◌≤◌, all_map, ap, arith, blank, cond, dec_lt, eqb, false, le-ltb, length, lt-ltb, ltb, ne_eqb, not, refl, refusal_number, subst, suc, sym, true, untagged, zero, ℕ, ℕ_discrete}
+use Rattle.laws.specs.Prelude.{All, BadRank, Bool, Element, Empty, Full, Idle, List, NoTag, Pop, Push, Refusal, Replace, [], ◌++◌, ◌+◌, ◌<◌, ◌∙◌, ◌∷◌, ◌≡◌, ◌≤◌, all_map, ap, arith, blank, cond, dec_lt, eqb, false, le-ltb, length, lt-ltb, ltb, ne_eqb, not, refl, refusal_number, subst, suc, sym, true, untagged, zero, ℕ, ℕ_discrete, Ok, None, Some, Err}
 use mathlib.Core.List.{append_assoc, append-nil}
 use Rattle.promise.specs.Prelude.{decided-either, ends, needs, zero-told}
 use Rattle.bucket_model.specs.Layout.{Lay}
@@ -82,28 +82,28 @@ insert-rank r e (x ∷ l) s = elim (dec_lt e.rank.0 x.rank.0) [
 
 -- P of what a call does that is not refused
 abbrev pub Does : Call → List Element → (Step (List Element) → Type 0) → Type 0
-Does (ask Idle) l P = P (step (answered Done) l)
-Does (ask (Push e)) l P = P (step (answered Done) (insert e l))
-Does (ask Pop) l P = (x : Element) (m : List Element) → l ≡ x ∷ m → P (step (answered (Out x)) m)
-Does (ask (Replace e)) l P = (x : Element) (m : List Element) → l ≡ x ∷ m → P (step (answered (Out x)) (insert e m))
-Does held l P = P (step (counted (Held (length l))) l)
+Does (ask Idle) l P = P (step (answered (Ok None)) l)
+Does (ask (Push e)) l P = P (step (answered (Ok None)) (insert e l))
+Does (ask Pop) l P = (x : Element) (m : List Element) → l ≡ x ∷ m → P (step (answered (Ok (Some x))) m)
+Does (ask (Replace e)) l P = (x : Element) (m : List Element) → l ≡ x ∷ m → P (step (answered (Ok (Some x))) (insert e m))
+Does held l P = P (step (counted (Ok (length l))) l)
 
 -- what is so of that, and of every refusal but 2, which leaves the list, is so of every call
-pub plain-either : (ranks : ℕ) (room : Bool) (c : Call) (l : List Element) (P : Step (List Element) → Type 0) → ((x : Refusal) → (refusal_number x ≡ 2 → ⊥) → P (step (answered (Refused x)) l)) → Does c l P
+pub plain-either : (ranks : ℕ) (room : Bool) (c : Call) (l : List Element) (P : Step (List Element) → Type 0) → ((x : Refusal) → (refusal_number x ≡ 2 → ⊥) → P (step (answered (Err x)) l)) → Does c l P
     → P (plain_with ranks room c l)
 unfolding plain_with
 plain-either ranks room (ask Idle) l P f h = h
 plain-either ranks room (ask (Push e)) l P f h =
-    decided-either (λ x. step (answered (Refused x)) l) P (needs BadRank (ltb e.rank.0 ranks) (Unit {0}) (needs NoTag (not (untagged e)) (Unit {0}) (needs Full room (Unit {0}) ends)))
-    (step (answered Done) (insert e l)) (f BadRank (λ n. omega arith), (f NoTag (λ n. omega arith), (f Full (λ n. omega arith), tt))) (λ _. h)
+    decided-either (λ x. step (answered (Err x)) l) P (needs BadRank (ltb e.rank.0 ranks) (Unit {0}) (needs NoTag (not (untagged e)) (Unit {0}) (needs Full room (Unit {0}) ends)))
+    (step (answered (Ok None)) (insert e l)) (f BadRank (λ n. omega arith), (f NoTag (λ n. omega arith), (f Full (λ n. omega arith), tt))) (λ _. h)
 plain-either ranks room (ask Pop) [] P f h = f Empty (λ n. omega arith)
 plain-either ranks room (ask Pop) (x ∷ l) P f h = h x l refl
 plain-either ranks room (ask (Replace e)) l P f h =
-    decided-either (λ x. step (answered (Refused x)) l) P (needs BadRank (ltb e.rank.0 ranks) (Unit {0}) (needs NoTag (not (untagged e)) (Unit {0}) ends))
+    decided-either (λ x. step (answered (Err x)) l) P (needs BadRank (ltb e.rank.0 ranks) (Unit {0}) (needs NoTag (not (untagged e)) (Unit {0}) ends))
     (plain_replace e l) (f BadRank (λ n. omega arith), (f NoTag (λ n. omega arith), tt)) (λ _. go l refl)
   where
     go : (m : List Element) → l ≡ m → P (plain_replace e l)
-    go [] i = rw i (subst (λ (m : List Element). P (step (answered (Refused Empty)) m)) i (f Empty (λ n. omega arith)))
+    go [] i = rw i (subst (λ (m : List Element). P (step (answered (Err Empty)) m)) i (f Empty (λ n. omega arith)))
     go (x ∷ m) i = rw i (h x m i)
 plain-either ranks room held l P f h = h
 
@@ -143,7 +143,7 @@ kept-no c l x s a b e =
       holds = λ g. rw (a, b, e) (omega arith);
     }
 
-kept_push : (e : Element) (l : List Element) → Sorted l → Kept (ask (Push e)) l (step (answered Done) (insert e l))
+kept_push : (e : Element) (l : List Element) → Sorted l → Kept (ask (Push e)) l (step (answered (Ok None)) (insert e l))
 unfolding times
 kept_push e l s =
     record {
@@ -152,7 +152,7 @@ kept_push e l s =
       holds = λ g. omega (arith, times-insert g e l);
     }
 
-kept-pop : (x : Element) (l : List Element) → Sorted (x ∷ l) → Kept (ask Pop) (x ∷ l) (step (answered (Out x)) l)
+kept-pop : (x : Element) (l : List Element) → Sorted (x ∷ l) → Kept (ask Pop) (x ∷ l) (step (answered (Ok (Some x))) l)
 unfolding times
 kept-pop x l s =
     record {
@@ -161,7 +161,7 @@ kept-pop x l s =
       holds = λ g. omega arith;
     }
 
-kept-replace : (e x : Element) (l : List Element) → Sorted (x ∷ l) → Kept (ask (Replace e)) (x ∷ l) (step (answered (Out x)) (insert e l))
+kept-replace : (e x : Element) (l : List Element) → Sorted (x ∷ l) → Kept (ask (Replace e)) (x ∷ l) (step (answered (Ok (Some x))) (insert e l))
 unfolding times
 kept-replace e x l s =
     record {
@@ -174,16 +174,16 @@ kept-replace e x l s =
     }
 
 pub plain-kept : (ranks : ℕ) (room : Bool) (c : Call) (l : List Element) → Sorted l → Kept c l (plain_with ranks room c l)
-plain-kept ranks room c l s = plain-either ranks room c l (Kept c l) (λ x n. kept-no c l (step (answered (Refused x)) l) s (none_in c x) (none_out c x) refl) (does c)
+plain-kept ranks room c l s = plain-either ranks room c l (Kept c l) (λ x n. kept-no c l (step (answered (Err x)) l) s (none_in c x) (none_out c x) refl) (does c)
   where
-    none_in : (c : Call) (x : Refusal) → came c (answered (Refused x)) ≡ []
+    none_in : (c : Call) (x : Refusal) → came c (answered (Err x)) ≡ []
     none_in (ask Idle) x = refl
     none_in (ask (Push e)) x = if-refused x e
     none_in (ask Pop) x = refl
     none_in (ask (Replace e)) x = if-refused x e
     none_in held x = refl
 
-    none_out : (c : Call) (x : Refusal) → went c (answered (Refused x)) ≡ []
+    none_out : (c : Call) (x : Refusal) → went c (answered (Err x)) ≡ []
     none_out (ask Idle) x = refl
     none_out (ask (Push e)) x = refl
     none_out (ask Pop) x = if-refused x blank
@@ -191,11 +191,11 @@ plain-kept ranks room c l s = plain-either ranks room c l (Kept c l) (λ x n. ke
     none_out held x = refl
 
     does : (c : Call) → Does c l (Kept c l)
-    does (ask Idle) = kept-no (ask Idle) l (step (answered Done) l) s refl refl refl
+    does (ask Idle) = kept-no (ask Idle) l (step (answered (Ok None)) l) s refl refl refl
     does (ask (Push e)) = kept_push e l s
     does (ask Pop) = λ x m i. rw i (kept-pop x m (subst Sorted i s))
     does (ask (Replace e)) = λ x m i. rw i (kept-replace e x m (subst Sorted i s))
-    does held = kept-no held l (step (counted (Held (length l))) l) s refl refl refl
+    does held = kept-no held l (step (counted (Ok (length l))) l) s refl refl refl
 
 -- ---- any list of calls
 

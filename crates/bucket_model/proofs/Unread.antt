@@ -1,5 +1,5 @@
 -- "Longer slices are taken; the rest is never touched": not read either. Two stores that agree on the words of the shape are answered the same and left the same there, whatever stands behind.
-use Rattle.laws.specs.Prelude.{Answer, Bool, Done, Element, Idle, List, Out, Pop, Push, Replace, Request, [], ◌%◌, ◌&&◌, ◌+◌, ◌/◌, ◌<◌, ◌^◌, ◌∙◌, ◌∷◌, ◌≡◌, ◌≤◌, ap, arith, cond, dec_lt, eq-eqb, eqb, false, false≢true, le-ltb, length, length-set, lt-ltb, ltb, ltb-true, ne_eqb, not, pow-suc, refl, set, subst, suc, sym, true, untagged, zero, ℕ, ℕ_discrete}
+use Rattle.laws.specs.Prelude.{Answer, Bool, Element, Idle, List, Pop, Push, Replace, Request, [], ◌%◌, ◌&&◌, ◌+◌, ◌/◌, ◌<◌, ◌^◌, ◌∙◌, ◌∷◌, ◌≡◌, ◌≤◌, ap, arith, cond, dec_lt, eq-eqb, eqb, false, false≢true, le-ltb, length, length-set, lt-ltb, ltb, ltb-true, ne_eqb, not, pow-suc, refl, set, subst, suc, sym, true, untagged, zero, ℕ, ℕ_discrete, Ok, None, Some}
 use Rattle.bucket_model.specs.Prelude.{Agree, AgreeOn, Alike, AlikeOn, Laid, Outcome, Shaped, agree, asked, bit_words, blank_word, cleared, edit, find, given, head_at, held_count, is_shaped, is_whole, joined_bits, joined_words, joins, loaded, lowest_in, lowest_of, lowest_open, lowest_rank, signalled, next_at, next_of, no_lowest, node_words, opens, outcome, pop_found, popped, push_found, pushed, rank_agrees, replace_found, replace_joined, replaced, room_after, room_of, room_with, store, store_words, storeys_at, storeys_from, switched, tail_at, taken_bits, taken_words, takes, tells_above, word, words_of, write}
 use Rattle.bucket_model.specs.Layout.{Lay}
 use Rattle.bucket_model.specs.Calls.{Lowest, Room}
@@ -169,7 +169,7 @@ module _ (k : Lay) (laid : Laid k) (B W : ℕ → Type 0) (all : Covers k B W) w
       pub push-found-same : (used : ℕ) (e : Element) → e.rank.0 < k.ranks → AlikeOn B W (push_found k b w e (room_with k used b w e.rank.0)) (push_found k c v e (room_with k used c v e.rank.0))
       unfolding push_found
       push-found-same used e l =
-          rw (room-same used e.rank.0 l) (alike-cond B W (room_with k used c v e.rank.0).good (room_with k used c v e.rank.0).good _ _ _ _ refl (λ u. join-same e (room_with k used c v e.rank.0) Done l) (standing _))
+          rw (room-same used e.rank.0 l) (alike-cond B W (room_with k used c v e.rank.0).good (room_with k used c v e.rank.0).good _ _ _ _ refl (λ u. join-same e (room_with k used c v e.rank.0) (Ok None) l) (standing _))
 
       -- ---- a pop: the bits are words of 64 bits
 
@@ -196,7 +196,7 @@ module _ (k : Lay) (laid : Laid k) (B W : ℕ → Type 0) (all : Covers k B W) w
         pub pop-found-same : AlikeOn B W (pop_found k b w (lowest_of k b w)) (pop_found k c v (lowest_of k c v))
         unfolding pop_found
         pop-found-same = rw (← low_same) (alike-cond B W low.good low.good _ _ _ _ refl (λ u. record {
-          answer = ap Out (given-same u);
+          answer = ap (λ (e : Element). Ok (Some e)) (given-same u);
           bits = taken-bits-same b c g pb pc low (low-lt k laid b w fits u);
           words = taken-same w v h pw pv low;
         }) (standing _))
@@ -311,7 +311,7 @@ module _ (k : Lay) (laid : Laid k) where
           (λ u. let t = after-agrees k laid B W own b c w v g h lb lc lw lv fits u in
           rw (after_same (taken_bits k b lo) (taken_bits k c lo) (taken_words k w lo) (taken_words k v lo) t.0 t.1 e.rank.0 l, given-same k laid B W own b c w v g h lb lc lw lv fits u)
           (alike-cond B W (room_after k (taken_bits k c lo) (taken_words k v lo) e.rank.0).good (room_after k (taken_bits k c lo) (taken_words k v lo) e.rank.0).good _ _ _ _ refl
-          (λ x. join-same k laid B W own (taken_bits k b lo) (taken_bits k c lo) (taken_words k w lo) (taken_words k v lo) t.0 t.1 (has-taken-bits B k b lo lb) (has-taken-bits B k c lo lc) (has-taken W k w lo lw) (has-taken W k v lo lv) e (room_after k (taken_bits k c lo) (taken_words k v lo) e.rank.0) (Out (given k v lo)) l)
+          (λ x. join-same k laid B W own (taken_bits k b lo) (taken_bits k c lo) (taken_words k w lo) (taken_words k v lo) t.0 t.1 (has-taken-bits B k b lo lb) (has-taken-bits B k c lo lc) (has-taken W k w lo lw) (has-taken W k v lo lv) e (room_after k (taken_bits k c lo) (taken_words k v lo) e.rank.0) (Ok (Some (given k v lo))) l)
           (still _))) (still _))
         where
           lb : Has B b
@@ -339,7 +339,7 @@ module _ (k : Lay) (laid : Laid k) where
     -- UNREAD: every request
     pub unread : (q : Request) → Alike k (asked k q (store b w)) (asked k q (store c v))
     unfolding asked
-    unread Idle = still Done
+    unread Idle = still (Ok None)
     unread (Push e) = unread-push b c w v g h s z e
     unread Pop = unread-pop b c w v g h s z fits
     unread (Replace e) = unread-replace e

@@ -1,11 +1,11 @@
 -- The five calls as functions of every word that they are lent, to their answer and every word that they leave, wherever these words stand. These are definitions, and the contracts cite them.
 use Rattle.std.specs.Prelude.{◌%◌, ◌&&◌, ◌++◌, ◌+◌, ◌-◌, ◌/◌, ◌∷◌}
-use Rattle.laws.specs.Prelude.{Answer, BadRank, BadShape, Bool, Count, Damaged, Done, Element, Empty, Full, Held, List, NoTag, Out, Refusal, Refused, Unknown, [], cond, eqb, false, length, ltb, not, suc, true, untagged, zero, ℕ}
+use Rattle.laws.specs.Prelude.{Answer, BadRank, BadShape, Bool, Damaged, Element, Empty, Full, List, NoTag, Refusal, [], cond, eqb, false, length, ltb, not, suc, true, untagged, zero, ℕ, Result, Ok, Err, None, Some}
 use Rattle.bucket_model.specs.Layout.{Lay, load_words, node_words, bit_words, store_words, word, write, head_at, tail_at, next_at, load_in, load_writes, load_of, loaded, no_load}
 use Rattle.bucket_model.specs.Storeys.{signalled, lowest_rank, lowest_open, rank_agrees}
 use Rattle.bucket_model.specs.Checks.{shape_ok, whole_ok, next_of, pop_ok, Reads, push_ok}
-pub use Rattle.bucket_model.specs.declared.Lowest.{Lowest}
-pub use Rattle.bucket_model.specs.declared.Room.{Room}
+pub use Rattle.bucket_model.specs.declared.Bucket.{Bucket}
+pub use Rattle.bucket_model.specs.declared.Spot.{Spot}
 
 -- what a call answers, and all words of both slices afterwards
 pub record Outcome : Type 0 where
@@ -18,7 +18,7 @@ outcome a b w = record { answer = a; bits = b; words = w }
 
 -- a refusal leaves everything behind
 abbrev pub refused : Refusal → List ℕ → List ℕ → Outcome
-refused r b w = outcome (Refused r) b w
+refused r b w = outcome (Err r) b w
 
 -- the shape of a call, and the tests of the whole queue
 abbrev pub is_shaped : Lay → List ℕ → List ℕ → Bool
@@ -53,15 +53,27 @@ blank_word k j =
 unfoldable pub cleared : Lay → List ℕ → List ℕ → Outcome
 cleared k b w =
     cond (is_shaped k b w)
-    (outcome Done (fill (λ j. 0) (bit_words k) b) (fill (blank_word k) (store_words k) w))
+    (outcome (Ok None) (fill (λ j. 0) (bit_words k) b) (fill (blank_word k) (store_words k) w))
     (refused BadShape b w)
 
 -- ---- held
 
-unfoldable pub held_count : Lay → List ℕ → List ℕ → Count
-held_count k b w = cond (is_shaped k b w) (cond (is_whole k b w) (Held (word w k.held)) (Unknown Damaged)) (Unknown BadShape)
+unfoldable pub held_count : Lay → List ℕ → List ℕ → Result ℕ Refusal
+held_count k b w = cond (is_shaped k b w) (cond (is_whole k b w) (Ok (word w k.held)) (Err Damaged)) (Err BadShape)
 
 -- ---- pop
+
+-- the lowest bucket as a pop finds it: whether it passes the tests, and what was read of it, good or not. next is its head's
+pub record Lowest : Type 0 where
+  pub good : Bool
+  pub rank : ℕ
+  pub head : ℕ
+  pub tail : ℕ
+  pub next : ℕ
+
+-- one that is good, as the code hands it on
+abbrev pub found_low : Bucket → Lowest
+found_low x = record { good = true; rank = x.rank; head = x.head; tail = x.tail; next = x.next }
 
 -- the bucket of rank r as a pop finds it
 abbrev pub lowest_in : Lay → List ℕ → ℕ → Lowest
@@ -104,7 +116,7 @@ given k w low = loaded low.rank (load_in k.stem w low.head)
 
 unfoldable pub pop_found : Lay → List ℕ → List ℕ → Lowest → Outcome
 pop_found k b w low =
-    cond low.good (outcome (Out (given k w low)) (taken_bits k b low) (taken_words k w low)) (refused Damaged b w)
+    cond low.good (outcome (Ok (Some (given k w low))) (taken_bits k b low) (taken_words k w low)) (refused Damaged b w)
 
 -- what gives the lowest asks for a whole queue, 2, and then for something held, 6
 abbrev pub giving : Lay → List ℕ → List ℕ → Outcome → Outcome
@@ -128,6 +140,16 @@ reads_of k used b w r =
       free = word w k.free;
       next = next_of k w (word w k.free);
     }
+
+-- the bucket that a push joins: whether it passes the tests, its tail, and the next of the node taken
+pub record Room : Type 0 where
+  pub good : Bool
+  pub tail : ℕ
+  pub next : ℕ
+
+-- one that is good
+abbrev pub found_room : Spot → Room
+found_room x = record { good = true; tail = x.tail; next = x.next }
 
 -- the bucket that it joins
 unfoldable pub room_with : Lay → ℕ → List ℕ → List ℕ → ℕ → Room
@@ -161,7 +183,7 @@ joined_bits k b e to = cond (eqb to.tail 0) (signalled true k b e.rank.0) b
 
 unfoldable pub push_found : Lay → List ℕ → List ℕ → Element → Room → Outcome
 push_found k b w e to =
-    cond to.good (outcome Done (joined_bits k b e to) (joined_words k w e to)) (refused Damaged b w)
+    cond to.good (outcome (Ok None) (joined_bits k b e to) (joined_words k w e to)) (refused Damaged b w)
 
 -- what takes an element in asks for its rank, 4, and then for its tag: 7 "comes after 4 in the bucket queue" (02 [1])
 abbrev pub taking : Lay → List ℕ → List ℕ → Element → Outcome → Outcome
@@ -191,7 +213,7 @@ room_after k b w r =
 unfoldable pub replace_joined : Lay → List ℕ → List ℕ → Element → Lowest → Room → Outcome
 replace_joined k b w e low to =
     cond to.good
-    (outcome (Out (given k w low)) (joined_bits k (taken_bits k b low) e to) (joined_words k (taken_words k w low) e to))
+    (outcome (Ok (Some (given k w low))) (joined_bits k (taken_bits k b low) e to) (joined_words k (taken_words k w low) e to))
     (refused Damaged b w)
 
 -- "otherwise the lowest held element is answered, even if the new rank is lower": the pop's tests first

@@ -1,6 +1,6 @@
 -- The table "When a queue says no" in facts: what a sound call may count on, and for each call what it asks in turn, with the refusal where it does not hold. These are definitions.
 use Rattle.std.specs.Prelude.{◌%◌, ◌+◌, ◌/◌, ◌<◌, ◌∷◌, ◌≡◌, ◌≤◌}
-use Rattle.laws.specs.Prelude.{BadRank, BadShape, Count, Damaged, Element, Empty, Full, Idle, Iff, List, NoTag, Pop, Push, Refusal, Replace, Request, Unknown, [], count_number, eqb, fine, length, ltb, not, number_of, untagged, ℕ}
+use Rattle.laws.specs.Prelude.{BadRank, BadShape, Damaged, Element, Empty, Full, Idle, Iff, List, NoTag, Pop, Push, Refusal, Replace, Request, [], count_number, eqb, fine, length, ltb, not, number_of, untagged, ℕ, Result, Err}
 use Rattle.laws.specs.Ladder as laws
 use Rattle.bitmap.specs.Bits.{bit_at}
 use Rattle.promise.specs.Prelude.{Table, Untagged, ends, grants, ladder, needs}
@@ -71,8 +71,8 @@ PushFit k b w r = JoinFit k (word w k.held) b w r
 -- ---- the table, call by call: "For the bucket queue: 1, 4, 2, then 5 or 6". A line is a refusal, the test that a call makes, and what it asks by it
 
 module _ (k : Lay) (b w : List ℕ) where
-  abbrev pub Some : Type 0
-  Some = word w k.held ≡ 0 → ⊥
+  abbrev pub HoldsSome : Type 0
+  HoldsSome = word w k.held ≡ 0 → ⊥
 
   -- 1, of every call
   abbrev pub shape_table : Table → Table
@@ -94,7 +94,7 @@ module _ (k : Lay) (b w : List ℕ) where
 
   -- what a pop and a replace ask alike: 2 of the whole queue, 6, and "a pop with held above 0, also tests its bucket"
   abbrev pub give_table : Table → Table
-  give_table a = whole_table (needs Empty (not (eqb (word w k.held) 0)) Some (needs Damaged (lowest_of k b w).good (PopFit k b w (lowest_rank k b)) a))
+  give_table a = whole_table (needs Empty (not (eqb (word w k.held) 0)) HoldsSome (needs Damaged (lowest_of k b w).good (PopFit k b w (lowest_rank k b)) a))
 
   -- "A push with held below N"
   abbrev pub room_table : Element → Table → Table
@@ -142,8 +142,8 @@ abbrev pub Exactly : Outcome → List ℕ → List ℕ → Table → Type 0
 Exactly o b w a = laws.Exactly (λ (o : Outcome). number_of o.answer) (λ (r : Refusal). refused r b w) o (ladder a fine)
 
 -- .. and for held, which writes nothing
-abbrev pub ExactlyCount : Count → Table → Type 0
-ExactlyCount c a = laws.Exactly count_number Unknown c (ladder a fine)
+abbrev pub ExactlyCount : Result ℕ Refusal → Table → Type 0
+ExactlyCount c a = laws.Exactly count_number Err c (ladder a fine)
 
 -- ---- the rest of longer slices
 

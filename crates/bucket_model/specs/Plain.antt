@@ -1,6 +1,6 @@
 -- The plain queue, one list in leaving order, and lists of calls on it and on the words. These are definitions.
 use Rattle.std.specs.Prelude.{◌++◌, ◌+◌, ◌∷◌, ◌≡◌, ◌≤◌}
-use Rattle.laws.specs.Prelude.{All, Answer, BadRank, Bool, Count, Done, Element, Empty, Full, Held, Idle, List, NoTag, Out, Pop, Push, Refused, Replace, Request, [], cond, count_number, element_of, eqb, length, ltb, not, number_of, replicate, suc, untagged, zero, ℕ}
+use Rattle.laws.specs.Prelude.{All, Answer, BadRank, Bool, Element, Empty, Full, Idle, List, NoTag, Pop, Push, Replace, Request, [], cond, count_number, element_of, eqb, length, ltb, not, number_of, replicate, suc, untagged, zero, ℕ, Result, Refusal, Ok, None, Some, Err}
 use Rattle.bucket_model.specs.Layout.{Lay, bit_words, store_words, word, head_at, tail_at, next_in, Load, load_in, loaded}
 use Rattle.bucket_model.specs.Calls.{Outcome, outcome, cleared, pushed, popped, replaced, held_count}
 use Rattle.bucket_model.specs.Causes.{Shaped}
@@ -13,7 +13,7 @@ pub data Call : Type 0 where
 
 pub data Said : Type 0 where
   answered : Answer → Said
-  counted : Count → Said
+  counted : Result ℕ Refusal → Said
 
 -- what a call says, and the state after it
 pub record Step (A : Type 0) : Type 0 where
@@ -34,7 +34,7 @@ store b w = record { bits = b; words = w }
 
 -- asking for nothing leaves everything
 unfoldable pub asked : Lay → Request → Store → Outcome
-asked k Idle s = outcome Done s.bits s.words
+asked k Idle s = outcome (Ok None) s.bits s.words
 asked k (Push e) s = pushed k s.bits s.words e
 asked k Pop s = popped k s.bits s.words
 asked k (Replace e) s = replaced k s.bits s.words e
@@ -72,33 +72,33 @@ insert e [] = e ∷ []
 insert e (x ∷ xs) = cond (ltb e.rank.0 x.rank.0) (e ∷ x ∷ xs) (x ∷ insert e xs)
 
 abbrev pub plain_pop : List Element → Step (List Element)
-plain_pop [] = step (answered (Refused Empty)) []
-plain_pop (x ∷ l) = step (answered (Out x)) l
+plain_pop [] = step (answered (Err Empty)) []
+plain_pop (x ∷ l) = step (answered (Ok (Some x))) l
 
 -- "a replace is a pop and then a push": the first is answered, "even if the new rank is lower", and then the newcomer goes in
 abbrev pub plain_replace : Element → List Element → Step (List Element)
-plain_replace e [] = step (answered (Refused Empty)) []
-plain_replace e (x ∷ l) = step (answered (Out x)) (insert e l)
+plain_replace e [] = step (answered (Err Empty)) []
+plain_replace e (x ∷ l) = step (answered (Ok (Some x))) (insert e l)
 
 -- only ranks that there are
 abbrev pub ranked : ℕ → Element → List Element → Step (List Element) → Step (List Element)
-ranked ranks e l x = cond (ltb e.rank.0 ranks) x (step (answered (Refused BadRank)) l)
+ranked ranks e l x = cond (ltb e.rank.0 ranks) x (step (answered (Err BadRank)) l)
 
 -- only elements that have a tag
 abbrev pub tagged : Element → List Element → Step (List Element) → Step (List Element)
-tagged e l x = cond (not (untagged e)) x (step (answered (Refused NoTag)) l)
+tagged e l x = cond (not (untagged e)) x (step (answered (Err NoTag)) l)
 
 -- only while there is room
 abbrev pub roomy : Bool → List Element → Step (List Element) → Step (List Element)
-roomy room l x = cond room x (step (answered (Refused Full)) l)
+roomy room l x = cond room x (step (answered (Err Full)) l)
 
 -- so many ranks, and whether there is room for one more
 unfoldable pub plain_with : ℕ → Bool → Call → List Element → Step (List Element)
-plain_with ranks room (ask Idle) l = step (answered Done) l
-plain_with ranks room (ask (Push e)) l = ranked ranks e l (tagged e l (roomy room l (step (answered Done) (insert e l))))
+plain_with ranks room (ask Idle) l = step (answered (Ok None)) l
+plain_with ranks room (ask (Push e)) l = ranked ranks e l (tagged e l (roomy room l (step (answered (Ok None)) (insert e l))))
 plain_with ranks room (ask Pop) l = plain_pop l
 plain_with ranks room (ask (Replace e)) l = ranked ranks e l (tagged e l (plain_replace e l))
-plain_with ranks room held l = step (counted (Held (length l))) l
+plain_with ranks room held l = step (counted (Ok (length l))) l
 
 -- .. while fewer are held than there are nodes
 abbrev pub plain : Lay → Call → List Element → Step (List Element)
@@ -204,7 +204,7 @@ pub record FirstOut (k : Lay) (s : Store) (x : Element) : Type 0 where
 -- "The freed node .. becomes first in the free chain, so freed room is used at once": after a pop that gives x, the free link names the node that held x; a push of any rank that there is is taken then, even where the pool was full, and that node is the tail of its bucket
 pub record Reused (k : Lay) (s t : Store) (x e : Element) : Type 0 where
   pub free : word t.words k.free ≡ word s.words (head_at k x.rank.0)
-  pub taken : (asked k (Push e) t).answer ≡ Done
+  pub taken : (asked k (Push e) t).answer ≡ Ok None
   pub node : word (asked k (Push e) t).words (tail_at k e.rank.0) ≡ word s.words (head_at k x.rank.0)
 
 -- ---- a run to read off

@@ -1,6 +1,6 @@
 -- What is promised of the bucket queue's words, beside the plain queue. These are definitions.
 use Rattle.std.specs.Prelude.{◌%◌, ◌*◌, ◌+◌, ◌/◌, ◌<◌, ◌∷◌, ◌≡◌, ◌≤◌}
-use Rattle.laws.specs.Prelude.{All, Answer, Bool, Done, Element, Iff, List, Pop, Request, [], length, map, ℕ}
+use Rattle.laws.specs.Prelude.{All, Answer, Bool, Element, Iff, List, Pop, Request, [], length, map, ℕ, Ok, None}
 use Rattle.bitmap.specs.Bits.{bit_at}
 use Rattle.promise.specs.Queue as served
 use Rattle.promise.specs.Prelude.{short, short_answer, short_request}
@@ -60,7 +60,7 @@ pub record Lies (d : Depth) (n : ℕ) : Type 0 where
 
 -- bits 0; heads and tails 0; each node's tag 0, its length 0, its next the link of the node after it, the last none; free link 1; held 0. Behind the shape every word is as before, and no slice is longer or shorter
 pub record Blank (d : Depth) (n : ℕ) (b w : List ℕ) (o : Outcome) : Type 0 where
-  pub answer : o.answer ≡ Done
+  pub answer : o.answer ≡ Ok None
   pub bits : (i : ℕ) → i < d.bits → word o.bits i ≡ 0
   pub head : (r : ℕ) → r < d.ranks → word o.words r ≡ 0
   pub tail : (r : ℕ) → r < d.ranks → word o.words (d.ranks + r) ≡ 0

@@ -18,10 +18,9 @@ pub struct Lay {
     pub held: usize,
 }
 
-// The lowest bucket as a pop finds it: whether it passes the tests, its rank, and the links read. next is its head's.
+// The bucket that a pop takes from: its rank, and the links read. next is its head's.
 #[derive(Clone, Copy)]
-pub struct Lowest {
-    pub good: bool,
+pub struct Bucket {
     pub rank: u32,
     pub head: u32,
     pub tail: u32,
@@ -41,10 +40,9 @@ pub struct Reads {
     pub next: u32,
 }
 
-// The bucket that a push joins: whether it passes the tests, its tail, and the next of the node taken.
+// The bucket that a push joins: its tail, and the next of the node taken.
 #[derive(Clone, Copy)]
-pub struct Room {
-    pub good: bool,
+pub struct Spot {
     pub tail: u32,
     pub next: u32,
 }

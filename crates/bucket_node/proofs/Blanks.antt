@@ -1,49 +1,40 @@
 -- What clear writes, word by word; and a list filled from the front in parts.
+use borrow.Rule.Slice.PartMut.{put_mid}
+use Rattle.std.proofs.Common.{◌++◌, drop, replicate}
 use Rattle.laws.specs.Prelude.{List, [], ◌%◌, ◌*◌, ◌+◌, ◌-◌, ◌/◌, ◌<◌, ◌∙◌, ◌∷◌, ◌≡◌, ◌≤◌, ap, ap₂, arith, eq-eqb, le-ltb, le_of_suc-le-suc, length, lt-ltb, ne_eqb, not-suc-le-zero, refl, set, suc, sym, zero, ℕ}
 use Rattle.bucket_model.specs.declared.Lay.{Lay}
 use Rattle.bucket_model.specs.Prelude.{Laid, blank_cell, blank_word, fill, fill_from, load_words, node_words}
-use Rattle.bucket_model.proofs.Laws.{fill_step}
+use Rattle.bucket_model.proofs.Laws.{fill_step, from-zeros}
 
 -- ---- in parts
 
 -- by another function that says the same of those words
-from-same : (f g : ℕ → ℕ) (i k : ℕ) (w : List ℕ) → ((j : ℕ) → j < i + k → f j ≡ g j) → fill_from f i k w ≡ fill_from g i k w
+from-same : (f g : ℕ → ℕ) (i k : ℕ) (w : List ℕ) → ((j : ℕ) → i ≤ j → j < i + k → f j ≡ g j) → fill_from f i k w ≡ fill_from g i k w
 from-same f g i zero w h = refl
 from-same f g i (suc k) [] h = refl
 from-same f g i (suc k) (x ∷ xs) h =
-    ap₂ (λ (y : ℕ) (ys : List ℕ). y ∷ ys) (h i (omega arith)) (from-same f g (suc i) k xs (λ j l. h j (omega arith)))
+    ap₂ (λ (y : ℕ) (ys : List ℕ). y ∷ ys) (h i (omega arith) (omega arith)) (from-same f g (suc i) k xs (λ j u l. h j (omega arith) (omega arith)))
 
 pub fill-same : (f g : ℕ → ℕ) (k : ℕ) (w : List ℕ) → ((j : ℕ) → j < k → f j ≡ g j) → fill f k w ≡ fill g k w
 unfolding fill
-fill-same f g k w h = from-same f g 0 k w (λ j l. h j (omega arith))
+fill-same f g k w h = from-same f g 0 k w (λ j u l. h j (omega arith))
 
--- once more, and further
-from-over : (f : ℕ → ℕ) (i k n : ℕ) (w : List ℕ) → k ≤ n → fill_from f i n (fill_from f i k w) ≡ fill_from f i n w
-from-over f i zero n w h = refl
-from-over f i (suc k) zero w h = absurd (not-suc-le-zero h)
-from-over f i (suc k) (suc n) [] h = refl
-from-over f i (suc k) (suc n) (x ∷ xs) h = ap (λ (l : List ℕ). f i ∷ l) (from-over f (suc i) k n xs (le_of_suc-le-suc h))
+-- zeros behind a part, where the function says so
+from-behind : (f : ℕ → ℕ) (i a m k : ℕ) (w : List ℕ) → k ≡ a + m → k ≤ length w → ((j : ℕ) → i + a ≤ j → f j ≡ 0) → put_mid a m (fill_from f i a w) (replicate m 0) ≡ fill_from f i k w
+from-behind f i zero m k w e h z =
+    let n : k ≡ m = omega (arith, e) in
+    let zeros : replicate m 0 ++ drop m w ≡ fill_from f i m w = from-zeros i m w (omega (arith, n, h)) ∙ from-same (λ j. 0) f i m w (λ j u l. sym (z j (omega (arith, u)))) in
+    zeros ∙ ap (λ (n : ℕ). fill_from f i n w) (sym n)
+from-behind f i (suc a) m zero w e h z = absurd (omega arith)
+from-behind f i (suc a) m (suc k) [] e h z = absurd (not-suc-le-zero h)
+from-behind f i (suc a) m (suc k) (x ∷ xs) e h z =
+    ap (λ (l : List ℕ). f i ∷ l) (from-behind f (suc i) a m k xs (omega (arith, e)) (le_of_suc-le-suc h) (λ j l. z j (omega (arith, l))))
 
-pub fill-over : (f : ℕ → ℕ) (k n : ℕ) (w : List ℕ) → k ≤ n → fill f n (fill f k w) ≡ fill f n w
+pub fill-behind : (f : ℕ → ℕ) (a m k : ℕ) (w : List ℕ) → k ≡ a + m → k ≤ length w → ((j : ℕ) → a ≤ j → f j ≡ 0) → put_mid a m (fill f a w) (replicate m 0) ≡ fill f k w
 unfolding fill
-fill-over f k n w h = from-over f 0 k n w h
-
--- where a part begins, with that part filled already
-pub fill-there : (f : ℕ → ℕ) (k : ℕ) (w v : List ℕ) → v ≡ fill f k w → v ≡ fill f k v
-fill-there f k w v e = rw e (sym (fill-over f k k w (omega arith)))
-
--- .. and where it ends
-pub fill-ends : (f : ℕ → ℕ) (k n : ℕ) (w v s : List ℕ) (j : ℕ) → v ≡ fill f k w → s ≡ fill f j v → j ≡ n → k ≤ n → s ≡ fill f n w
-fill-ends f k n w v s j e d g h = d ∙ ap₂ (λ (i : ℕ) (u : List ℕ). fill f i u) g e ∙ fill-over f k n w h
+fill-behind f a m k w e h z = from-behind f 0 a m k w e h (λ j l. z j (omega (arith, l)))
 
 -- ---- word by word
-
-module _ (n l : ℕ) where
-  pub next_last : l ≡ n → 0 ≡ blank_cell n l load_words
-  next_last p = rw (eq-eqb l n p) refl
-
-  pub next-other : (l ≡ n → ⊥) → l + 1 ≡ blank_cell n l load_words
-  next-other p = rw (ne_eqb l n p) refl
 
 module _ (k : Lay) where
   pub blank-list : (j : ℕ) → j < k.stem + node_words → 0 ≡ blank_word k j
@@ -86,13 +77,8 @@ module _ (k : Lay) where
     unfolding blank_word
     blank-behind j h = rw (le-ltb j (k.stem + node_words) (omega (arith, laid.pool)), le-ltb j k.free (omega arith), ne_eqb j k.free (λ e. omega arith)) refl
 
-    -- the free link behind them, whatever the parts before it were filled from
-    pub ends-lists : (w v s : List ℕ) (at : ℕ) → v ≡ fill (blank_word k) (k.stem + node_words) w → s ≡ fill (blank_word k) at v → at ≡ k.free → k.free < length w →
-        set s at 1 ≡ fill (blank_word k) (k.free + 1) w
-    ends-lists w v s at e f g long =
-        let r : s ≡ fill (blank_word k) k.free w = fill-ends (blank_word k) (k.stem + node_words) k.free w v s at e f g (omega (arith, laid.pool)) in
+    -- the free link behind them
+    pub ends-lists : (w s : List ℕ) (at : ℕ) → s ≡ fill (blank_word k) at w → at ≡ k.free → k.free < length w → set s at 1 ≡ fill (blank_word k) (k.free + 1) w
+    ends-lists w s at f g long =
+        let r : s ≡ fill (blank_word k) k.free w = f ∙ ap (λ (i : ℕ). fill (blank_word k) i w) g in
         ap₂ (λ (u : List ℕ) (i : ℕ). set u i 1) r g ∙ ap (set (fill (blank_word k) k.free w) k.free) blank-free ∙ fill_step (blank_word k) k.free w long
-
-    -- .. and the words behind it
-    pub fill-behind : (w s : List ℕ) (j : ℕ) → k.free < j → j < length w → s ≡ fill (blank_word k) j w → set s j 0 ≡ fill (blank_word k) (j + 1) w
-    fill-behind w s j h long e = ap₂ (λ (u : List ℕ) (x : ℕ). set u j x) e (blank-behind j h) ∙ fill_step (blank_word k) j w long

@@ -1,20 +1,11 @@
 -- What each function writes, from what it has read.
-use Rattle.laws.specs.Prelude.{Element, List, [], ◌++◌, ◌+◌, ◌-◌, ◌<◌, ◌∷◌, ◌≡◌, arith, eq-eqb, ne_eqb, refl, sym, ℕ}
+use Rattle.laws.specs.Prelude.{Element, List, [], ◌++◌, ◌+◌, ◌-◌, ◌∷◌, ◌≡◌, refl, sym, ℕ}
 use Rattle.bucket_model.specs.declared.Lay.{Lay}
-use Rattle.bucket_model.specs.declared.Lowest.{Lowest}
-use Rattle.bucket_model.specs.declared.Room.{Room}
+use Rattle.bucket_model.specs.Calls.{Lowest}
+use Rattle.bucket_model.specs.Calls.{Room}
 use Rattle.bucket_model.specs.Prelude.{head_at, joined_words, link_at, load_of, load_writes, next_at, no_load, tail_at, tail_left, taken_words, word, write}
 use Rattle.bucket_model.proofs.Laws.{swapped}
-use Rattle.bucket_node.specs.Places.{Linkable, Swappable}
-
-module _ (k : Lay) (r tail : ℕ) (h : Linkable k r tail) where
-  pub link-head : tail ≡ 0 → (head_at k r ≡ link_at k r tail) × (head_at k r < k.free)
-  unfolding link_at
-  link-head e = (rw (eq-eqb tail 0 e) refl, omega (arith, h.rank<, h.laid.lists, h.laid.pool))
-
-  pub link-next : (tail ≡ 0 → ⊥) → (next_at k tail ≡ link_at k r tail) × (next_at k tail < k.free)
-  unfolding link_at
-  link-next n = (rw (ne_eqb tail 0 n) refl, omega (arith, h.tail≤, h.laid.pool))
+use Rattle.bucket_node.specs.Places.{Swappable}
 
 -- the words written are those of the rule
 pub taken_is : (k : Lay) (w : List ℕ) (low : Lowest) (tail : ℕ) → tail ≡ tail_left low.next low.tail

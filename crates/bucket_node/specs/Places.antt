@@ -2,8 +2,8 @@
 use Rattle.std.specs.Prelude.{◌<◌, ◌≡◌, ◌≤◌}
 use Rattle.laws.specs.Prelude.{List, length, ℕ}
 use Rattle.bucket_model.specs.declared.Lay.{Lay}
-use Rattle.bucket_model.specs.declared.Lowest.{Lowest}
-use Rattle.bucket_model.specs.declared.Room.{Room}
+use Rattle.bucket_model.specs.Calls.{Lowest}
+use Rattle.bucket_model.specs.Calls.{Room}
 use Rattle.bucket_model.specs.Prelude.{Laid, store_words, word}
 
 -- all words of the layout are there

@@ -11,7 +11,7 @@ ghost use Rattle.bucket_model.specs.Calls.{fill, blank_word, tail_left, blank_ce
 ghost use Rattle.bucket_node.specs.Places.{Fits, NodeOf};
 
 use bucket_model::Lay;
-use strip::{Element, Length, Rank, Tag};
+use strip::Element;
 
 pub mod links;
 
@@ -76,16 +76,14 @@ pub fn free_link(words: &[u32], k: Lay) -> u32
     requires { Fits k words.now }
     ensures { result ≡ word words.now k.free }
 {
-    let at = k.free;
-    words[at]
+    words[k.free]
 }
 
 pub fn held_count(words: &[u32], k: Lay) -> u32
     requires { Fits k words.now }
     ensures { result ≡ word words.now k.held }
 {
-    let at = k.held;
-    words[at]
+    words[k.held]
 }
 
 pub fn head_of(words: &[u32], k: Lay, rank: u32) -> u32
@@ -103,6 +101,7 @@ pub fn tail_of(words: &[u32], k: Lay, rank: u32) -> u32
 }
 
 // The next of the node that link names; 0 where it names none of the nodes, so that garbage can be read before it is tested.
+#[tactic(auto, unfolding(bucket_model::specs::Checks::next_of))]
 pub fn next_of(words: &[u32], k: Lay, link: u32) -> u32
     requires { Fits k words.now }
     ensures { result ≡ next_of k words.now link }
@@ -122,16 +121,11 @@ pub fn element_of(words: &[u32], k: Lay, rank: u32, link: u32) -> Element
     ensures { result ≡ loaded rank (load_in k.stem words.now link) }
 {
     let node = k.stem + NODE * (link as usize);
-    let tag = words[node + TAG];
-    let length = words[node + LENGTH];
-    Element {
-        rank: Rank(rank),
-        tag: Tag(tag),
-        length: Length(length),
-    }
+    strip::element_of(rank, words[node + TAG], words[node + LENGTH])
 }
 
 // The tail of a bucket whose head is taken away.
+#[tactic(auto, unfolding(bucket_model::specs::Calls::tail_left))]
 pub fn tail_left(next: u32, tail: u32) -> u32
     ensures { result ≡ tail_left next tail }
 {
@@ -155,18 +149,6 @@ fn blank_next(n: u32, link: u32) -> u32
     link + 1
 }
 
-// The first words, all 0.
-fn zero_words(words: &mut [u32], end: usize)
-    requires { end ≤ length words.old }
-    ensures { words.new ≡ fill (λ j. 0) end words.old }
-{
-    let mut j = 0;
-    while j < end {
-        words[j] = 0;
-        j += 1;
-    }
-}
-
 // The heads and tails, the chain of free nodes, and the free link, which names its first.
 pub fn wipe_lists(words: &mut [u32], k: Lay)
     requires laid { layout.Laid k }
@@ -175,14 +157,12 @@ pub fn wipe_lists(words: &mut [u32], k: Lay)
     ensures { words.new ≡ fill (blank_word k) (k.free + 1) words.old }
 {
     let mut node = k.stem + NODE;
-    zero_words(words, node);
-    let mut link = 1;
-    while link <= k.nodes {
+    words[..node].fill(0);
+    for link in 1..k.nodes + 1 {
         words[node + TAG] = 0;
         words[node + LENGTH] = 0;
         words[node + NEXT] = blank_next(k.nodes, link);
         node += NODE;
-        link += 1;
     }
     words[node] = 1;
 }
@@ -194,9 +174,5 @@ pub fn wipe_words(words: &mut [u32], k: Lay)
     ensures { words.new ≡ fill (blank_word k) (store_words k) words.old }
 {
     wipe_lists(words, k);
-    let mut j = k.free + 1;
-    while j <= k.held {
-        words[j] = 0;
-        j += 1;
-    }
+    words[k.free + 1..=k.held].fill(0);
 }

@@ -1,5 +1,5 @@
 -- A call that goes through the depths that there are, and is done at the one that is asked for.
-use Rattle.laws.specs.Prelude.{Answer, BadShape, Bool, List, ◌&&◌, ◌+◌, ◌<◌, ◌∙◌, ◌≡◌, ◌≤◌, ap, arith, cond, false, le-leb, le-ltb, leb, lt-leb, lt-ltb, ltb, ltb-false, ltb-true, means-and, means-leb, refl, sym, true, ℕ}
+use Rattle.laws.specs.Prelude.{Answer, BadShape, Bool, List, ◌&&◌, ◌+◌, ◌<◌, ◌∙◌, ◌≡◌, ◌≤◌, ap, arith, cond, dec_lt, false, le-leb, le-ltb, leb, lt-leb, lt-ltb, ltb, ltb-false, ltb-true, means-and, means-leb, refl, sym, true, ℕ}
 use Rattle.bucket_model.specs.declared.Lay.{Lay}
 use Rattle.bucket_model.specs.Prelude.{Outcome, depth_ok, is_shaped, least_storeys, most_storeys, outcome, queue, refused, shape_ok}
 
@@ -11,6 +11,10 @@ deep_of d e = (means-and (means-leb least_storeys d) (means-leb d most_storeys))
 pub undeep : (d n : ℕ) (b w : List ℕ) → depth_ok d ≡ false → is_shaped (queue d n) b w ≡ false
 unfolding shape_ok
 undeep d n b w e = simp e
+
+-- all depths gone through: no other is one
+pub all-gone : (s d : ℕ) → most_storeys + 1 ≤ d → (least_storeys ≤ s → d ≤ s) → depth_ok s ≡ false
+all-gone s d l h = elim (dec_lt s least_storeys) [ yes e ↦ simp (lt-leb least_storeys s e) | no n ↦ (let far : least_storeys ≤ s = omega arith in let past : most_storeys < s = omega (arith, h far) in simp (le-leb least_storeys s far, lt-leb s most_storeys past)) ]
 
 -- the same call of the same layout
 pub at-lay : (f : Lay → List ℕ → List ℕ → Outcome) (k l : Lay) (b w : List ℕ) (o : Outcome) → k ≡ l → o ≡ f k b w → o ≡ f l b w
@@ -70,8 +74,8 @@ module _ (f : ℕ → List ℕ → List ℕ → Outcome) (s : ℕ) (b w : List �
   gone-on d a a₁ b₀ w₀ b₁ w₁ m g x y z = (λ i. outcome (z i) (x i) (y i)) ∙ g ∙ passed_on s d _ _ m
 
   -- all depths gone through: no other is shaped
-  pub all-gone : (d : ℕ) (o : Outcome) → d ≡ most_storeys + 1 → (depth_ok s ≡ false → refused BadShape b w ≡ f s b w) → Gone d o → o ≡ f s b w
-  all-gone d o e bad g = g ∙ ap (λ (d : ℕ). passed s d (f s b w) (refused BadShape b w)) e ∙ go (leb least_storeys s) refl (ltb s (most_storeys + 1)) refl
+  pub gone-all : (d : ℕ) (o : Outcome) → d ≡ most_storeys + 1 → (depth_ok s ≡ false → refused BadShape b w ≡ f s b w) → Gone d o → o ≡ f s b w
+  gone-all d o e bad g = g ∙ ap (λ (d : ℕ). passed s d (f s b w) (refused BadShape b w)) e ∙ go (leb least_storeys s) refl (ltb s (most_storeys + 1)) refl
     where
       go : (t : Bool) → leb least_storeys s ≡ t → (u : Bool) → ltb s (most_storeys + 1) ≡ u → cond (t && u) (f s b w) (refused BadShape b w) ≡ f s b w
       go true p true q = refl

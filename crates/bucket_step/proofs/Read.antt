@@ -1,12 +1,15 @@
 -- What the functions have read is what the rules read. Each law takes what a function has read as equations.
-use Rattle.laws.specs.Prelude.{Bool, Bool·beq, Iff, List, Means, ◌&&◌, ◌+◌, ◌-◌, ◌<◌, ◌∙◌, ◌≡◌, ◌≤◌, and_assoc, and_left, and_right, and-unit, ap, arith, cond, eq-eqb, eqb, false, false≢true, le-leb, leb, length, lt-leb, ltb, means-and, means-beq, means-by, means-eqb, means-leb, means-ltb, means-not, ne_eqb, not, refl, subst, sym, true, ℕ, ℕ_discrete}
+use Rattle.std.specs.Prelude.{None, Option, Some}
+use Rattle.std.specs.Option.{is_some}
+use Rattle.laws.specs.Prelude.{Bool, Bool·beq, Iff, List, Means, ◌&&◌, ◌+◌, ◌-◌, ◌<◌, ◌∙◌, ◌≡◌, ◌≤◌, and_assoc, and_left, and_right, and-true, ap, arith, eq-eqb, eqb, false, false≢true, le-leb, leb, length, ltb, means-and, means-beq, means-by, means-eqb, means-leb, means-ltb, means-not, ne_eqb, not, refl, subst, sym, true, ℕ, ℕ_discrete}
 use Rattle.bucket_model.specs.declared.Lay.{Lay}
-use Rattle.bucket_model.specs.declared.Lowest.{Lowest}
+use Rattle.bucket_model.specs.Calls.{Lowest}
 use Rattle.bucket_model.specs.declared.Reads.{Reads}
-use Rattle.bucket_model.specs.declared.Room.{Room}
-use Rattle.bucket_model.specs.Prelude.{Agrees, Laid, Whole, agree, head_at, is_whole, lowest_in, lowest_of, lowest_open, lowest_rank, signalled, next_of, no_lowest, pop_ok, push_ok, rank_agrees, reads_of, room_after, room_with, store_words, storeys_at, tail_at, tail_left, taken_bits, taken_words, whole_ok, word}
+use Rattle.bucket_model.specs.declared.Spot.{Spot}
+use Rattle.bucket_model.specs.Calls.{Room}
+use Rattle.bucket_model.specs.Prelude.{Agrees, Laid, Whole, found_room, head_at, is_whole, lowest_in, lowest_of, lowest_open, lowest_rank, signalled, next_of, pop_ok, push_ok, rank_agrees, reads_of, room_after, room_with, store_words, storeys_at, tail_at, tail_left, taken_bits, taken_words, whole_ok, word}
 use Rattle.bucket_model.proofs.Laws.{agree-means, free-after, head-else, head-own, held_after, low-is, next-else, next-own, pop-means, pop-way, tail-else, tail-own}
-use Rattle.bucket_bits.specs.Climbs.{Tall, Leads, bits_left, Agreed}
+use Rattle.bucket_bits.specs.Climbs.{Agreed, Leads, LeadsTo, Tall}
 use Rattle.bucket_bits.proofs.Numbers.{words-le}
 use Rattle.bucket_node.specs.Places.{Fits, Takable}
 use Rattle.bucket_step.specs.Tested.{Stands, FoundLow, FoundLinks, FoundRoom, Freeing, ends_ok, node_ok, links_ok, links_in, join_ok, room_freed}
@@ -33,12 +36,6 @@ alike false false m n = refl
 off : (t : Bool) → (t ≡ true → ⊥) → t ≡ false
 off true h = absurd (h refl)
 off false h = refl
-
-pub pick_yes : {A : Type 0} (t : Bool) (x y : A) → t ≡ true → x ≡ cond t x y
-pick_yes t x y e = rw e refl
-
-pub pick_no : {A : Type 0} (t : Bool) (x y : A) → t ≡ false → y ≡ cond t x y
-pick_no t x y e = rw e refl
 
 -- whole with something held, and with a node that is free
 module _ (top free held n : ℕ) where
@@ -80,68 +77,50 @@ module _ (n head tail next behind : ℕ) where
   unfolding pop_ok
   ends-pop h t = simp (and_left (not (eqb head 0)) (leb head n) h, and_right (not (eqb head 0)) (leb head n) h, and_left (not (eqb tail 0)) (leb tail n) t, and_right (not (eqb tail 0)) (leb tail n) t)
 
-  pub ends-high : n < next → false ≡ ends_ok n head tail next behind
-  ends-high l = simp (lt-leb next n l)
-
-  pub ends-behind : next ≤ n → (behind ≡ 0 → ⊥) → false ≡ ends_ok n head tail next behind
-  ends-behind l e = simp (le-leb next n l, ne_eqb behind 0 e)
-
-  pub ends-both : next ≤ n → behind ≡ 0 → Bool·beq (eqb next 0) (eqb head tail) ≡ ends_ok n head tail next behind
-  ends-both l e = simp (le-leb next n l, eq-eqb behind 0 e)
-
-module _ (k : Lay) (b w : List ℕ) (h : Stands k b w) (t : Bool) (r : ℕ) (l : Leads b k.bits k.storeys t r) where
-  way-is : t ≡ lowest_open k b
+module _ (k : Lay) (b w : List ℕ) (h : Stands k b w) where
+  -- none is found where the way down is shut
+  pub found-shut : Leads b k.bits k.storeys None → (lowest_of k b w).good ≡ false
   unfolding lowest_open
-  way-is = l.way
+  found-shut l = off (lowest_of k b w).good (λ g. false≢true (sym l ∙ pop-way k b w g))
 
-  to_is : t ≡ true → r ≡ lowest_rank k b
-  unfolding lowest_rank
-  to_is = l.to
+  module _ (r : ℕ) (l : LeadsTo b k.bits k.storeys r) where
+    way-is : lowest_open k b ≡ true
+    unfolding lowest_open
+    way-is = l.way
 
-  -- none is found where the rules' bucket does not pass the tests
-  none : (low : Lowest) → low ≡ no_lowest → ((lowest_of k b w).good ≡ true → ⊥) → FoundLow k b w low
-  none low e n =
-      let z : low.good ≡ false = ap (λ (x : Lowest). x.good) e in
-      record {
-        good = z ∙ sym (off (lowest_of k b w).good n);
-        is = λ x. absurd (false≢true (sym z ∙ x));
-        rank< = λ x. absurd (false≢true (sym z ∙ x));
-        set = λ x. absurd (false≢true (sym z ∙ x));
-      }
+    to_is : r ≡ lowest_rank k b
+    unfolding lowest_rank
+    to_is = l.to
 
-  pub found-shut : (low : Lowest) → low ≡ no_lowest → t ≡ false → FoundLow k b w low
-  found-shut low e s = none low e (λ g. false≢true (sym s ∙ way-is ∙ pop-way k b w g))
+    pub found-rank : r < k.ranks
+    found-rank = omega (arith, l.within, h.laid.ranks)
 
-  pub found-rank : t ≡ true → r < k.ranks
-  found-rank e = omega (arith, l.within e, h.laid.ranks)
+    module _ (head tail : ℕ) (s u : Bool) (p : head ≡ word w (head_at k r)) (q : tail ≡ word w (tail_at k r)) (hs : s ≡ (not (eqb head 0) && leb head k.nodes)) (hu : u ≡ (not (eqb tail 0) && leb tail k.nodes)) where
+      -- .. nor where head or tail names no node
+      pub found-nodeless : (s && u) ≡ false → (lowest_of k b w).good ≡ false
+      found-nodeless n = off (lowest_of k b w).good (λ g.
+          let f = (pop-means k b w).says g in
+          let at : word w (head_at k (lowest_rank k b)) ≡ head = ap (λ (i : ℕ). word w (head_at k i)) (sym to_is) ∙ sym p in
+          let behind : word w (tail_at k (lowest_rank k b)) ≡ tail = ap (λ (i : ℕ). word w (tail_at k i)) (sym to_is) ∙ sym q in
+          let x : s ≡ true = hs ∙ (node-means k.nodes head).holds (subst (λ (x : ℕ). (x ≡ 0 → ⊥) × (x ≤ k.nodes)) at (f.head≢, f.head≤)) in
+          let y : u ≡ true = hu ∙ (node-means k.nodes tail).holds (subst (λ (x : ℕ). (x ≡ 0 → ⊥) × (x ≤ k.nodes)) behind (f.tail≢, f.tail≤)) in
+          false≢true (sym n ∙ and-true s u x y))
 
-  module _ (e : t ≡ true) where
-    pub found-headless : (low : Lowest) (head : ℕ) (s : Bool) → low ≡ no_lowest → head ≡ word w (head_at k r) → s ≡ (not (eqb head 0) && leb head k.nodes) → s ≡ false → FoundLow k b w low
-    found-headless low head s z p q n =
-        let at : word w (head_at k (lowest_rank k b)) ≡ head = ap (λ (i : ℕ). word w (head_at k i)) (sym (to_is e)) ∙ sym p in
-        none low z (λ g. let f = (pop-means k b w).says g in false≢true (sym n ∙ q ∙ (node-means k.nodes head).holds (subst (λ (x : ℕ). (x ≡ 0 → ⊥) × (x ≤ k.nodes)) at (f.head≢, f.head≤))))
+      module _ (some : (s && u) ≡ true) (next : ℕ) (good : Bool) (v : next ≡ next_of k w head) (g : good ≡ ends_ok k.nodes head tail next (next_of k w tail)) where
+        open-is : ◌≡◌ {A = Lowest} (record { good = good; rank = r; head = head; tail = tail; next = next }) (lowest_of k b w)
+        open-is =
+            let n : next ≡ next_of k w (word w (head_at k r)) = v ∙ ap (next_of k w) p in
+            let m : next_of k w tail ≡ next_of k w (word w (tail_at k r)) = ap (next_of k w) q in
+            let f : good ≡ (lowest_in k w r).good = g ∙ ends-pop k.nodes head tail next (next_of k w tail) (sym hs ∙ and_left s u some) (sym hu ∙ and_right s u some) ∙ (λ i. pop_ok k.nodes (p i) (q i) (n i) (m i)) in
+            let same : ◌≡◌ {A = Lowest} (record { good = good; rank = r; head = head; tail = tail; next = next }) (lowest_in k w r) = λ i. record { good = f i; rank = r; head = p i; tail = q i; next = n i } in
+            same ∙ ap (lowest_in k w) to_is ∙ sym (low-is k b w way-is)
 
-    pub found-tailless : (low : Lowest) (tail : ℕ) (s : Bool) → low ≡ no_lowest → tail ≡ word w (tail_at k r) → s ≡ (not (eqb tail 0) && leb tail k.nodes) → s ≡ false → FoundLow k b w low
-    found-tailless low tail s z p q n =
-        let at : word w (tail_at k (lowest_rank k b)) ≡ tail = ap (λ (i : ℕ). word w (tail_at k i)) (sym (to_is e)) ∙ sym p in
-        none low z (λ g. let f = (pop-means k b w).says g in false≢true (sym n ∙ q ∙ (node-means k.nodes tail).holds (subst (λ (x : ℕ). (x ≡ 0 → ⊥) × (x ≤ k.nodes)) at (f.tail≢, f.tail≤))))
+        -- .. nor where the ends do not fit
+        pub found-unfit : good ≡ false → (lowest_of k b w).good ≡ false
+        found-unfit e = sym (ap (λ (x : Lowest). x.good) open-is) ∙ e
 
-    pub found-open : (head tail next : ℕ) (good s u : Bool) → head ≡ word w (head_at k r) → tail ≡ word w (tail_at k r)
-        → s ≡ (not (eqb head 0) && leb head k.nodes) → s ≡ true → u ≡ (not (eqb tail 0) && leb tail k.nodes) → u ≡ true
-        → next ≡ next_of k w head → good ≡ ends_ok k.nodes head tail next (next_of k w tail)
-        → FoundLow k b w (record { good = good; rank = r; head = head; tail = tail; next = next })
-    found-open head tail next good s u p q hs s-is hu u-is v g =
-        let n : next ≡ next_of k w (word w (head_at k r)) = v ∙ ap (next_of k w) p in
-        let m : next_of k w tail ≡ next_of k w (word w (tail_at k r)) = ap (next_of k w) q in
-        let f : good ≡ (lowest_in k w r).good = g ∙ ends-pop k.nodes head tail next (next_of k w tail) (sym hs ∙ s-is) (sym hu ∙ u-is) ∙ (λ i. pop_ok k.nodes (p i) (q i) (n i) (m i)) in
-        let same : ◌≡◌ {A = Lowest} (record { good = good; rank = r; head = head; tail = tail; next = next }) (lowest_in k w r) = λ i. record { good = f i; rank = r; head = p i; tail = q i; next = n i } in
-        let is : ◌≡◌ {A = Lowest} (record { good = good; rank = r; head = head; tail = tail; next = next }) (lowest_of k b w) = same ∙ ap (lowest_in k w) (to_is e) ∙ sym (low-is k b w (sym way-is ∙ e)) in
-        record {
-          good = ap (λ (x : Lowest). x.good) is;
-          is = λ x. is;
-          rank< = λ x. found-rank e;
-          set = λ x. l.set e;
-        }
+        pub found-fit : good ≡ true → FoundLow k b w (Some (record { rank = r; head = head; tail = tail; next = next }))
+        found-fit e = record { is = (λ i. record { good = sym e i; rank = r; head = head; tail = tail; next = next }) ∙ open-is; rank< = found-rank; set = l.set }
 
 -- ---- the words after a pop
 
@@ -160,6 +139,11 @@ module _ (k : Lay) (w : List ℕ) (low : Lowest) (f : Takable k w low) where
 
 -- ---- the bucket that a push joins
 
+-- a link that names no node has no next
+pub next-none : (k : Lay) (w : List ℕ) (l : ℕ) → l ≡ 0 → next_of k w l ≡ 0
+unfolding next_of
+next-none k w l e = rw (eq-eqb l 0 e) refl
+
 -- its links, one test after the other
 module _ (n head tail behind free : ℕ) where
   links-mean : Means (links_ok n head tail behind free) ((((Iff (head ≡ 0) (tail ≡ 0) × (head ≤ n)) × (tail ≤ n)) × (behind ≡ 0)) × (free ≡ tail → ⊥))
@@ -171,21 +155,12 @@ module _ (n head tail behind free : ℕ) where
     | no e ↦ simp (ne_eqb head 0 e, eq-eqb tail 0 z)
   ]
 
-  module _ (t : tail ≡ 0 → ⊥) where
-    pub links-headless : (s : Bool) → s ≡ (not (eqb head 0) && leb head n) → s ≡ false → false ≡ links_ok n head tail behind free
-    links-headless s e z = sym (off (links_ok n head tail behind free) (λ g. let f = links-mean.says g in false≢true (sym z ∙ e ∙ (node-means n head).holds ((λ p. t (f.0.0.0.0.to p)), f.0.0.0.1))))
-
-    pub links-tailless : (s : Bool) → s ≡ (not (eqb tail 0) && leb tail n) → s ≡ false → false ≡ links_ok n head tail behind free
-    links-tailless s e z = sym (off (links_ok n head tail behind free) (λ g. let f = links-mean.says g in false≢true (sym z ∙ e ∙ (node-means n tail).holds (t, f.0.0.1))))
-
-    pub links-taken : tail ≡ free → false ≡ links_ok n head tail behind free
-    links-taken e = sym (off (links_ok n head tail behind free) (λ g. (links-mean.says g).1 (sym e)))
-
-    pub links-both : (s u : Bool) → s ≡ (not (eqb head 0) && leb head n) → s ≡ true → u ≡ (not (eqb tail 0) && leb tail n) → u ≡ true → (tail ≡ free → ⊥) → eqb behind 0 ≡ links_ok n head tail behind free
-    links-both s u hs s-is hu u-is a =
-        let h = (node-means n head).says (sym hs ∙ s-is) in
-        let v = (node-means n tail).says (sym hu ∙ u-is) in
-        simp (ne_eqb head 0 h.0, ne_eqb tail 0 t, le-leb head n h.1, le-leb tail n v.1, ne_eqb free tail (λ p. a (sym p))) (sym (and-unit (eqb behind 0)))
+  pub links-some : (tail ≡ 0 → ⊥) → ((((not (eqb head 0) && leb head n) && (not (eqb tail 0) && leb tail n)) && not (eqb tail free)) && eqb behind 0) ≡ links_ok n head tail behind free
+  links-some t =
+      alike _ _ (means-and (means-and (means-and (node-means n head) (node-means n tail)) (means-not (means-eqb tail free))) (means-eqb behind 0))
+      (means-by links-mean
+      (λ f. ((((λ p. t (f.0.0.0.0.to p), f.0.0.0.1), (t, f.0.0.1)), λ e. f.1 (sym e)), f.0.1))
+      (λ y. ((((record { to = λ p. absurd (y.0.0.0.0 p); from = λ p. absurd (t p) }, y.0.0.0.1), y.0.0.1.1), y.1), λ e. y.0.1 (sym e))))
 
 -- all a push's tests in their parts
 meant : (t : Bool) → Means t (t ≡ true)
@@ -227,9 +202,10 @@ part_no : (s t u : Bool) → t ≡ false → ((s && t) && u) ≡ false
 part_no s t u e = ap (λ (x : Bool). x && u) (last-no s t e)
 
 -- what the bits say, read without a pop
-pub agreed-now : (k : Lay) (b : List ℕ) (gone : ℕ) (empty : Bool) (r : ℕ) (agrees : Bool) (top : ℕ) → Agreed b k.bits k.storeys false gone empty r agrees top → agrees ≡ rank_agrees k b r empty
+pub agreed-now : (k : Lay) (b : List ℕ) (gone : ℕ) (empty : Bool) (r : ℕ) (top : Option ℕ) → Agreed b k.bits k.storeys false gone empty r top → is_some top ≡ rank_agrees k b r empty
 unfolding rank_agrees
-agreed-now k b gone empty r agrees top a = a.agreed
+agreed-now k b gone empty r None a = sym a
+agreed-now k b gone empty r (Some top) a = sym a.0
 
 module _ (k : Lay) (used : ℕ) (w : List ℕ) (r free next : ℕ) (ef : free ≡ word w k.free) (en : next ≡ next_of k w free) where
   next-is : next ≡ next_of k w (word w k.free)
@@ -239,19 +215,18 @@ module _ (k : Lay) (used : ℕ) (w : List ℕ) (r free next : ℕ) (ef : free �
   node-is : node_ok k.nodes used next ≡ of_node k used w
   node-is = λ i. node_ok k.nodes used (next-is i)
 
-  pub room-nodeless : (to : Room) (s : Bool) → to.good ≡ false → s ≡ node_ok k.nodes used next → s ≡ false → FoundLinks k w r (join_ok k used w r) to
-  room-nodeless to s e p z =
-      record {
-        good = e ∙ sym (ap (λ (t : Bool). t && links_in k w r) (sym node-is ∙ sym p ∙ z));
-        tail = λ x. absurd (false≢true (sym e ∙ x));
-        next = λ x. absurd (false≢true (sym e ∙ x));
-      }
+  pub room-nodeless : (s : Bool) → s ≡ node_ok k.nodes used next → s ≡ false → join_ok k used w r ≡ false
+  room-nodeless s p z = ap (λ (t : Bool). t && links_in k w r) (sym node-is ∙ sym p ∙ z)
 
-  pub room-linked : (s : Bool) → s ≡ node_ok k.nodes used next → s ≡ true → (head tail : ℕ) → head ≡ word w (head_at k r) → tail ≡ word w (tail_at k r)
-      → (u : Bool) → u ≡ links_ok k.nodes head tail (next_of k w tail) free → FoundLinks k w r (join_ok k used w r) (record { good = u; tail = tail; next = next })
-  room-linked s p z head tail ed et u q =
-      let links : u ≡ links_in k w r = q ∙ (λ i. links_ok k.nodes (ed i) (et i) (next_of k w (et i)) (ef i)) in
-      record { good = links ∙ sym (ap (λ (t : Bool). t && links_in k w r) (sym node-is ∙ sym p ∙ z)); tail = λ x. et; next = λ x. next-is }
+  module _ (s : Bool) (p : s ≡ node_ok k.nodes used next) (z : s ≡ true) (head tail : ℕ) (ed : head ≡ word w (head_at k r)) (et : tail ≡ word w (tail_at k r)) (u : Bool) (q : u ≡ links_ok k.nodes head tail (next_of k w tail) free) where
+    joins-is : join_ok k used w r ≡ u
+    joins-is = ap (λ (t : Bool). t && links_in k w r) (sym node-is ∙ sym p ∙ z) ∙ sym (q ∙ (λ i. links_ok k.nodes (ed i) (et i) (next_of k w (et i)) (ef i)))
+
+    pub room-unlinked : u ≡ false → join_ok k used w r ≡ false
+    room-unlinked e = joins-is ∙ e
+
+    pub room-linked : u ≡ true → FoundLinks k w r (join_ok k used w r) (Some (record { tail = tail; next = next }))
+    room-linked e = (joins-is ∙ e, record { tail = et; next = next-is })
 
 -- a bucket is empty where its tail is none
 empty-is : (k : Lay) (w : List ℕ) (r : ℕ) → links_in k w r ≡ true → eqb (word w (tail_at k r)) 0 ≡ eqb (word w (head_at k r)) 0
@@ -259,23 +234,22 @@ empty-is k w r e =
     let f = ((links-mean k.nodes (word w (head_at k r)) (word w (tail_at k r)) (next_of k w (word w (tail_at k r))) (word w k.free)).says e).0.0.0.0 in
     alike _ _ (means-eqb (word w (tail_at k r)) 0) (means-by (means-eqb (word w (head_at k r)) 0) f.to f.from)
 
+-- no bucket is found where the links fail their tests
+pub room-none : (k : Lay) (b w : List ℕ) (r used : ℕ) → join_ok k used w r ≡ false → (room_with k used b w r).good ≡ false
+room-none k b w r used e = room-parts k used b w r ∙ ap (λ (t : Bool). t && of_bits k b w r) e
+
 -- links and bits together
-module _ (k : Lay) (b w : List ℕ) (r : ℕ) (to : Room) where
+module _ (k : Lay) (b w : List ℕ) (r : ℕ) (to : Spot) where
   -- where the links are good, the bits are looked at for the same emptiness
   bits-too : to.tail ≡ word w (tail_at k r) → links_in k w r ≡ true → rank_agrees k b r (eqb to.tail 0) ≡ rank_agrees k b r (eqb (word w (head_at k r)) 0)
   bits-too e l = ap (λ (t : Bool). rank_agrees k b r t) (ap (λ (x : ℕ). eqb x 0) e ∙ empty-is k w r l)
 
-  pub room-found : (used : ℕ) → FoundLinks k w r (join_ok k used w r) to → (a : Bool) → a ≡ rank_agrees k b r (eqb to.tail 0) → FoundRoom (to.good && a) to (room_with k used b w r)
+  pub room-found : (used : ℕ) → FoundLinks k w r (join_ok k used w r) (Some to) → (a : Bool) → a ≡ rank_agrees k b r (eqb to.tail 0) → FoundRoom a (found_room to) (room_with k used b w r)
   unfolding room_with
-  room-found used f a e =
-      record {
-        good = go to.good refl;
-        is = λ x. let t = and_left to.good a x in (λ i. record { good = (t ∙ sym x ∙ go to.good refl) i; tail = f.tail t i; next = f.next t i });
-      }
+  room-found used f a e = record { good = same; is = λ x. (λ i. record { good = (sym x ∙ same) i; tail = f.1.tail i; next = f.1.next i }) }
     where
-      go : (t : Bool) → to.good ≡ t → (to.good && a) ≡ (room_with k used b w r).good
-      go false g = ap (λ (t : Bool). t && a) g ∙ sym (room-parts k used b w r ∙ ap (λ (t : Bool). t && of_bits k b w r) (sym f.good ∙ g))
-      go true g = (λ i. f.good i && (e ∙ bits-too (f.tail g) (and_right (of_node k used w) (links_in k w r) (sym f.good ∙ g))) i) ∙ sym (room-parts k used b w r)
+      same : a ≡ (room_with k used b w r).good
+      same = (λ i. sym f.0 i && (e ∙ bits-too f.1.tail (and_right (of_node k used w) (links_in k w r) f.0)) i) ∙ sym (room-parts k used b w r)
 
 -- one is held, and after a pop none
 one_left : (h : ℕ) → 1 ≤ h → eqb (h - 1) 0 ≡ eqb h 1
@@ -337,52 +311,64 @@ module _ (k : Lay) (w : List ℕ) (low : Lowest) (t : Takable k w low) where
             let rest : ℕ → Bool = λ x. Bool·beq (eqb head 0) (eqb tail 0) && leb head k.nodes && leb tail k.nodes && eqb x 0 in
             last-no (rest (next_of k w tail)) (not (eqb low.head tail)) (taken e) ∙ sym (last-no (rest (next_of k (taken_words k w low) tail)) (not (eqb low.head tail)) (taken e))
 
-    pub room-after-is : (u : Bool) (next : ℕ) → u ≡ links_ok k.nodes head tail (next_of k w tail) low.head → next ≡ word w k.free
-        → FoundLinks k (taken_words k w low) r (links_in k (taken_words k w low) r) (record { good = u; tail = tail; next = next })
-    room-after-is u next q en =
-        record {
-          good = q ∙ links-after ∙ (λ i. links_ok k.nodes (ed i) (et i) (next_of k (taken_words k w low) (et i)) (sym free-is i));
-          tail = λ x. et;
-          next = λ x. en ∙ sym freed-next ∙ ap (next_of k (taken_words k w low)) (sym free-is);
-        }
+    module _ (u : Bool) (next : ℕ) (q : u ≡ links_ok k.nodes head tail (next_of k w tail) low.head) where
+      links-then : links_in k (taken_words k w low) r ≡ u
+      links-then = sym (q ∙ links-after ∙ (λ i. links_ok k.nodes (ed i) (et i) (next_of k (taken_words k w low) (et i)) (sym free-is i)))
+
+      pub room-after-shut : u ≡ false → links_in k (taken_words k w low) r ≡ false
+      room-after-shut e = links-then ∙ e
+
+      pub room-after-is : u ≡ true → next ≡ word w k.free → FoundLinks k (taken_words k w low) r (links_in k (taken_words k w low) r) (Some (record { tail = tail; next = next }))
+      room-after-is e en = (links-then ∙ e, record { tail = et; next = en ∙ sym freed-next ∙ ap (next_of k (taken_words k w low)) (sym free-is) })
 
 -- what the bits say, once a pop has cleared its own
-pub agreed-then : (k : Lay) (b : List ℕ) (low : Lowest) (r : ℕ) (empty agrees : Bool) (top held : ℕ) → Agreed b k.bits k.storeys (eqb low.next 0) low.rank empty r agrees top
-    → (agrees && Bool·beq (eqb top 0) (eqb held 1)) ≡ (rank_agrees k (taken_bits k b low) r empty && Bool·beq (eqb (word (taken_bits k b low) k.bits) 0) (eqb held 1))
-unfolding rank_agrees taken_bits signalled
-agreed-then k b low r empty agrees top held a = go agrees refl
-  where
-    go : (t : Bool) → agrees ≡ t → (agrees && Bool·beq (eqb top 0) (eqb held 1)) ≡ (agree (bits_left b k.bits k.storeys (eqb low.next 0) low.rank) (storeys_at k) r empty && Bool·beq (eqb (word (bits_left b k.bits k.storeys (eqb low.next 0) low.rank) k.bits) 0) (eqb held 1))
-    go false e = ap (λ (t : Bool). t && Bool·beq (eqb top 0) (eqb held 1)) e ∙ sym (ap (λ (t : Bool). t && Bool·beq (eqb (word (bits_left b k.bits k.storeys (eqb low.next 0) low.rank) k.bits) 0) (eqb held 1)) (sym a.agreed ∙ e))
-    go true e = λ i. a.agreed i && Bool·beq (eqb (a.topmost e i) 0) (eqb held 1)
+module _ (k : Lay) (b : List ℕ) (low : Lowest) (r : ℕ) (empty : Bool) (held : ℕ) where
+  abbrev says : Bool
+  says = rank_agrees k (taken_bits k b low) r empty && Bool·beq (eqb (word (taken_bits k b low) k.bits) 0) (eqb held 1)
+
+  pub agreed-not : Agreed b k.bits k.storeys (eqb low.next 0) low.rank empty r None → false ≡ says
+  unfolding rank_agrees taken_bits signalled
+  agreed-not a = rw a refl
+
+  pub agreed-then : (top : ℕ) → Agreed b k.bits k.storeys (eqb low.next 0) low.rank empty r (Some top) → Bool·beq (eqb top 0) (eqb held 1) ≡ says
+  unfolding rank_agrees taken_bits signalled
+  agreed-then top a = λ i. sym a.0 i && Bool·beq (eqb (a.1 i) 0) (eqb held 1)
 
 -- links and bits together, and the top word
-pub freed-found : (k : Lay) (b w : List ℕ) (low : Lowest) (t : Takable k w low) (r : ℕ) (to : Room) → FoundLinks k (taken_words k w low) r (links_in k (taken_words k w low) r) to → (a : Bool) (held : ℕ) → held ≡ word w k.held
-    → a ≡ (rank_agrees k (taken_bits k b low) r (eqb to.tail 0) && Bool·beq (eqb (word (taken_bits k b low) k.bits) 0) (eqb held 1)) → FoundRoom (to.good && a) to (room_freed k (taken_bits k b low) (taken_words k w low) r)
-unfolding room_freed
-freed-found k b w low t r to f a held eh e =
-    record {
-      good = go to.good refl;
-      is = λ x. let g = and_left to.good a x in (λ i. record { good = (g ∙ sym x ∙ go to.good refl) i; tail = f.tail g i; next = f.next g i });
-    }
-  where
-    top-after : Bool·beq (eqb (word (taken_bits k b low) k.bits) 0) (eqb held 1) ≡ Bool·beq (eqb (word (taken_bits k b low) k.bits) 0) (eqb (word (taken_words k w low) k.held) 0)
-    top-after = ap (λ (x : Bool). Bool·beq (eqb (word (taken_bits k b low) k.bits) 0) x) (ap (λ (x : ℕ). eqb x 1) eh ∙ sym (ap (λ (x : ℕ). eqb x 0) (held-is k w low t) ∙ one_left (word w k.held) t.held>))
+module _ (k : Lay) (b w : List ℕ) (low : Lowest) (t : Takable k w low) (r : ℕ) where
+  abbrev B : List ℕ
+  B = taken_bits k b low
 
-    turn : (x y : Bool) → (y && x) ≡ ((x && true) && y)
-    turn true true = refl
-    turn true false = refl
-    turn false true = refl
-    turn false false = refl
+  abbrev W : List ℕ
+  W = taken_words k w low
 
-    go : (g : Bool) → to.good ≡ g → (to.good && a) ≡ ((Bool·beq (eqb (word (taken_bits k b low) k.bits) 0) (eqb (word (taken_words k w low) k.held) 0) && links_in k (taken_words k w low) r) && rank_agrees k (taken_bits k b low) r (eqb (word (taken_words k w low) (head_at k r)) 0))
-    go false g = ap (λ (x : Bool). x && a) g ∙ sym (part_no (Bool·beq (eqb (word (taken_bits k b low) k.bits) 0) (eqb (word (taken_words k w low) k.held) 0)) (links_in k (taken_words k w low) r) (rank_agrees k (taken_bits k b low) r (eqb (word (taken_words k w low) (head_at k r)) 0)) (sym f.good ∙ g))
-    go true g =
-        ap (λ (x : Bool). x && a) g
-        ∙ e
-        ∙ (λ i. bits-too k (taken_bits k b low) (taken_words k w low) r to (f.tail g) (sym f.good ∙ g) i && top-after i)
-        ∙ turn (Bool·beq (eqb (word (taken_bits k b low) k.bits) 0) (eqb (word (taken_words k w low) k.held) 0)) (rank_agrees k (taken_bits k b low) r (eqb (word (taken_words k w low) (head_at k r)) 0))
-        ∙ ap (λ (x : Bool). (Bool·beq (eqb (word (taken_bits k b low) k.bits) 0) (eqb (word (taken_words k w low) k.held) 0) && x) && rank_agrees k (taken_bits k b low) r (eqb (word (taken_words k w low) (head_at k r)) 0)) (sym g ∙ f.good)
+  pub freed-none : links_in k W r ≡ false → (room_freed k B W r).good ≡ false
+  unfolding room_freed
+  freed-none e = part_no (Bool·beq (eqb (word B k.bits) 0) (eqb (word W k.held) 0)) (links_in k W r) (rank_agrees k B r (eqb (word W (head_at k r)) 0)) e
+
+  pub freed-unfound : links_in k W r ≡ false → FoundRoom false (room_freed k B W r) (room_freed k B W r)
+  freed-unfound e = record { good = sym (freed-none e); is = λ x. absurd (false≢true x) }
+
+  pub freed-found : (to : Spot) → FoundLinks k W r (links_in k W r) (Some to) → (a : Bool) (held : ℕ) → held ≡ word w k.held
+      → a ≡ (rank_agrees k B r (eqb to.tail 0) && Bool·beq (eqb (word B k.bits) 0) (eqb held 1)) → FoundRoom a (found_room to) (room_freed k B W r)
+  unfolding room_freed
+  freed-found to f a held eh e = record { good = same; is = λ x. (λ i. record { good = (sym x ∙ same) i; tail = f.1.tail i; next = f.1.next i }) }
+    where
+      top-after : Bool·beq (eqb (word B k.bits) 0) (eqb held 1) ≡ Bool·beq (eqb (word B k.bits) 0) (eqb (word W k.held) 0)
+      top-after = ap (λ (x : Bool). Bool·beq (eqb (word B k.bits) 0) x) (ap (λ (x : ℕ). eqb x 1) eh ∙ sym (ap (λ (x : ℕ). eqb x 0) (held-is k w low t) ∙ one_left (word w k.held) t.held>))
+
+      turn : (x y : Bool) → (y && x) ≡ ((x && true) && y)
+      turn true true = refl
+      turn true false = refl
+      turn false true = refl
+      turn false false = refl
+
+      same : a ≡ ((Bool·beq (eqb (word B k.bits) 0) (eqb (word W k.held) 0) && links_in k W r) && rank_agrees k B r (eqb (word W (head_at k r)) 0))
+      same =
+          e
+          ∙ (λ i. bits-too k B W r to f.1.tail f.0 i && top-after i)
+          ∙ turn (Bool·beq (eqb (word B k.bits) 0) (eqb (word W k.held) 0)) (rank_agrees k B r (eqb (word W (head_at k r)) 0))
+          ∙ ap (λ (x : Bool). (Bool·beq (eqb (word B k.bits) 0) (eqb (word W k.held) 0) && x) && rank_agrees k B r (eqb (word W (head_at k r)) 0)) (sym f.0)
 
 -- a queue that has the pool to itself: of its tests only the top word's can fail
 module _ (k : Lay) (b w : List ℕ) (low : Lowest) (f : Freeing k b w low) (r : ℕ) (h : Whole k b w) where

@@ -1,9 +1,11 @@
 -- From what a call has tested to what its writes ask for.
+use Rattle.std.specs.Prelude.{Some}
 use Rattle.laws.specs.Prelude.{Bool, Element, Iff, List, ◌<◌, ◌^◌, ◌∙◌, ◌≡◌, ◌≤◌, ap, arith, cond, dec_lt, eqb, eqb-false, eqb-true, false, length, subst, sym, true, ℕ}
+use Rattle.bucket_model.specs.declared.Bucket.{Bucket}
 use Rattle.bucket_model.specs.declared.Lay.{Lay}
-use Rattle.bucket_model.specs.declared.Lowest.{Lowest}
-use Rattle.bucket_model.specs.declared.Room.{Room}
-use Rattle.bucket_model.specs.Prelude.{Agrees, edit, head_at, joined_bits, lowest_of, lowest_rank, signalled, most_storeys, next_of, room_with, storeys_at, tail_at, taken_bits, taken_words, word}
+use Rattle.bucket_model.specs.Calls.{Lowest}
+use Rattle.bucket_model.specs.Calls.{Room}
+use Rattle.bucket_model.specs.Prelude.{Agrees, edit, found_low, head_at, joined_bits, lowest_of, lowest_rank, signalled, most_storeys, next_of, room_with, storeys_at, tail_at, taken_bits, taken_words, word}
 use Rattle.bucket_model.proofs.Laws.{free-after, join-means, low-is, next-own, pop-means, pop-way, taken-bits-length}
 use Rattle.bucket_bits.specs.Climbs.{Tall, Switchable, Signalling}
 use Rattle.bucket_bits.proofs.Up.{agreed-switchable, agreed-stays, switchable-stays}
@@ -27,15 +29,15 @@ within k b w r s l = omega (arith, s.laid.ranks)
 
 module _ (k : Lay) (b w : List ℕ) where
   -- the lowest bucket can be taken from
-  pub freeing : Stands k b w → (low : Lowest) → (word w k.held ≡ 0 → ⊥) → FoundLow k b w low → low.good ≡ true → Freeing k b w low
-  freeing s low some f g =
-      let g0 : (lowest_of k b w).good ≡ true = sym f.good ∙ g in
-      let t = (pop-means k b w).says g0 in
-      let h : low.head ≡ word w (head_at k (lowest_rank k b)) = ap (λ (l : Lowest). l.head) (f.is g ∙ low-is k b w (pop-way k b w g0)) in
+  pub freeing : Stands k b w → (low : Bucket) → (word w k.held ≡ 0 → ⊥) → FoundLow k b w (Some low) → Freeing k b w (found_low low)
+  freeing s low some f =
+      let g : (lowest_of k b w).good ≡ true = sym (ap (λ (l : Lowest). l.good) f.is) in
+      let t = (pop-means k b w).says g in
+      let h : low.head ≡ word w (head_at k (lowest_rank k b)) = ap (λ (l : Lowest). l.head) (f.is ∙ low-is k b w (pop-way k b w g)) in
       record {
         stands = s;
-        takable = record { node = record { fits = fits k b w s; some = omega (arith, t.head≢); high = omega (arith, t.head≤) }; rank< = f.rank< g; held> = omega arith };
-        set = f.set g;
+        takable = record { node = record { fits = fits k b w s; some = omega (arith, t.head≢); high = omega (arith, t.head≤) }; rank< = f.rank<; held> = omega arith };
+        set = f.set;
       }
 
   -- the bits of a bucket that passes its tests

@@ -2,8 +2,8 @@
 use Rattle.std.specs.Prelude.{◌<◌, ◌^◌}
 use Rattle.laws.specs.Prelude.{List, eqb, true, ℕ}
 use Rattle.bucket_model.specs.declared.Lay.{Lay}
-use Rattle.bucket_model.specs.declared.Lowest.{Lowest}
-use Rattle.bucket_model.specs.declared.Room.{Room}
+use Rattle.bucket_model.specs.Calls.{Lowest}
+use Rattle.bucket_model.specs.Calls.{Room}
 use Rattle.bucket_model.specs.Prelude.{storeys_at, taken_bits}
 use Rattle.bucket_bits.specs.Climbs.{Tall, Signalling}
 use Rattle.bucket_node.specs.Places.{Joinable, Swappable}

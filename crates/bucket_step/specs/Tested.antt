@@ -1,10 +1,13 @@
 -- What the functions ask of their callers, and what they promise. These are definitions.
 use Rattle.std.specs.Prelude.{◌&&◌, ◌+◌, ◌<◌, ◌≡◌, ◌≤◌}
+use Rattle.std.specs.Prelude.{None, Option, Some}
 use Rattle.laws.specs.Prelude.{Bool, Bool·beq, List, eqb, false, leb, not, true, ℕ}
 use Rattle.bucket_model.specs.declared.Lay.{Lay}
-use Rattle.bucket_model.specs.declared.Lowest.{Lowest}
-use Rattle.bucket_model.specs.declared.Room.{Room}
-use Rattle.bucket_model.specs.Prelude.{Laid, Shaped, head_at, lowest_of, next_of, rank_agrees, storeys_at, tail_at, word}
+use Rattle.bucket_model.specs.Calls.{Lowest}
+use Rattle.bucket_model.specs.Calls.{Room}
+use Rattle.bucket_model.specs.declared.Bucket.{Bucket}
+use Rattle.bucket_model.specs.declared.Spot.{Spot}
+use Rattle.bucket_model.specs.Prelude.{Laid, Shaped, found_low, found_room, head_at, lowest_of, next_of, rank_agrees, storeys_at, tail_at, word}
 use Rattle.bucket_bits.specs.Climbs.{Switchable}
 use Rattle.bucket_node.specs.Places.{Takable}
 
@@ -53,18 +56,26 @@ room_freed k b w r =
 
 -- ---- what is found
 
--- the lowest bucket passes the tests exactly if the rules' does; then it is that one, its rank is one of the ranks, and its bits can be cleared
-pub record FoundLow (k : Lay) (b w : List ℕ) (low : Lowest) : Type 0 where
-  pub good : low.good ≡ (lowest_of k b w).good
-  pub is : low.good ≡ true → low ≡ lowest_of k b w
-  pub rank< : low.good ≡ true → low.rank < k.ranks
-  pub set : low.good ≡ true → Switchable false b (storeys_at k) low.rank
+-- the lowest bucket that the rules find, whose rank is one of the ranks, and its bits can be cleared
+pub record IsLow (k : Lay) (b w : List ℕ) (low : Lowest) : Type 0 where
+  pub is : low ≡ lowest_of k b w
+  pub rank< : low.rank < k.ranks
+  pub set : Switchable false b (storeys_at k) low.rank
 
--- the links of a bucket to join pass these tests exactly if they are found good, and then they are the bucket's
-pub record FoundLinks (k : Lay) (w : List ℕ) (r : ℕ) (test : Bool) (to : Room) : Type 0 where
-  pub good : to.good ≡ test
-  pub tail : to.good ≡ true → to.tail ≡ word w (tail_at k r)
-  pub next : to.good ≡ true → to.next ≡ next_of k w (word w k.free)
+-- .. is found exactly if it passes the tests
+abbrev pub FoundLow : Lay → List ℕ → List ℕ → Option Bucket → Type 0
+FoundLow k b w None = (lowest_of k b w).good ≡ false
+FoundLow k b w (Some low) = IsLow k b w (found_low low)
+
+-- the links of a bucket to join
+pub record AreLinks (k : Lay) (w : List ℕ) (r : ℕ) (to : Room) : Type 0 where
+  pub tail : to.tail ≡ word w (tail_at k r)
+  pub next : to.next ≡ next_of k w (word w k.free)
+
+-- .. are found exactly if they pass these tests
+abbrev pub FoundLinks : Lay → List ℕ → ℕ → Bool → Option Spot → Type 0
+FoundLinks k w r test None = test ≡ false
+FoundLinks k w r test (Some to) = (test ≡ true) × AreLinks k w r (found_room to)
 
 -- links and bits pass their tests exactly if the rules' bucket does, and then it is that one
 pub record FoundRoom (good? : Bool) (to room : Room) : Type 0 where

@@ -2,21 +2,21 @@
 #![tactic(auto)]
 
 ghost use Rattle.std.specs.Prelude.{◌≡◌};
-ghost use Rattle.bucket_model.specs.Calls.{taken_bits, taken_words, joined_bits, joined_words};
+ghost use Rattle.bucket_model.specs.Calls.{found_low, found_room, taken_bits, taken_words, joined_bits, joined_words};
 ghost use Rattle.bucket_step.specs.Tested.{Freeing};
 ghost use Rattle.bucket_step.specs.Stores.{Joining, Swapping, Showing};
 
 use bucket_bits::signal;
-use bucket_model::{Lay, Lowest, Room};
+use bucket_model::{Bucket, Lay, Spot};
 use bucket_node::links::{join_words, swap_words, take_words};
 use strip::Element;
 
 pub mod tests;
 
 // Takes the head out of the lowest bucket, with its bits where that empties it.
-pub fn take(bits: &mut [u64], words: &mut [u32], k: Lay, low: Lowest)
-    requires { Freeing k bits.old words.old low }
-    ensures { (bits.new ≡ taken_bits k bits.old low) × (words.new ≡ taken_words k words.old low) }
+pub fn take(bits: &mut [u64], words: &mut [u32], k: Lay, low: Bucket)
+    requires { Freeing k bits.old words.old (found_low low) }
+    ensures { (bits.new ≡ taken_bits k bits.old (found_low low)) × (words.new ≡ taken_words k words.old (found_low low)) }
 {
     take_words(words, k, low);
     signal(
@@ -31,20 +31,21 @@ pub fn take(bits: &mut [u64], words: &mut [u32], k: Lay, low: Lowest)
 }
 
 // Joins a newcomer to its bucket, with its bits where that was empty.
-pub fn join(bits: &mut [u64], words: &mut [u32], k: Lay, e: Element, to: Room)
+pub fn join(bits: &mut [u64], words: &mut [u32], k: Lay, e: Element, to: Spot)
     requires { Joining k bits.old words.old e.rank.0 to.tail }
-    ensures { (bits.new ≡ joined_bits k bits.old e to) × (words.new ≡ joined_words k words.old e to) }
+    ensures { (bits.new ≡ joined_bits k bits.old e (found_room to)) × (words.new ≡ joined_words k words.old e (found_room to)) }
 {
-    let rank = e.rank;
     join_words(words, k, e, to);
-    signal(bits, true, to.tail == 0, k.bits, k.storeys, k.tower, rank.0);
+    show(bits, k, e, to);
 }
 
 // Takes the head out of the lowest bucket, with its bits where that empties it, and joins its node, with what the newcomer
-// carries, to the newcomer's.
-pub fn swap(bits: &mut [u64], words: &mut [u32], k: Lay, low: Lowest, e: Element, to: Room)
-    requires { Swapping k bits.old words.old low e.rank.0 to }
-    ensures { (bits.new ≡ taken_bits k bits.old low) × (words.new ≡ joined_words k (taken_words k words.old low) e to) }
+// carries, to the newcomer's. It and what it calls are laid into the caller's code, as a replace of two storeys is 270
+// instructions so, and 335 by calls.
+#[inline(always)]
+pub fn swap(bits: &mut [u64], words: &mut [u32], k: Lay, low: Bucket, e: Element, to: Spot)
+    requires { Swapping k bits.old words.old (found_low low) e.rank.0 (found_room to) }
+    ensures { (bits.new ≡ taken_bits k bits.old (found_low low)) × (words.new ≡ joined_words k (taken_words k words.old (found_low low)) e (found_room to)) }
 {
     swap_words(words, k, low, e, to);
     signal(
@@ -59,10 +60,18 @@ pub fn swap(bits: &mut [u64], words: &mut [u32], k: Lay, low: Lowest, e: Element
 }
 
 // The newcomer's bits, where its bucket was empty.
-pub fn show(bits: &mut [u64], k: Lay, e: Element, to: Room)
+#[inline(always)]
+pub fn show(bits: &mut [u64], k: Lay, e: Element, to: Spot)
     requires { Showing k bits.old e.rank.0 to.tail }
-    ensures { bits.new ≡ joined_bits k bits.old e to }
+    ensures { bits.new ≡ joined_bits k bits.old e (found_room to) }
 {
-    let rank = e.rank;
-    signal(bits, true, to.tail == 0, k.bits, k.storeys, k.tower, rank.0);
+    signal(
+        bits,
+        true,
+        to.tail == 0,
+        k.bits,
+        k.storeys,
+        k.tower,
+        e.rank.0,
+    );
 }

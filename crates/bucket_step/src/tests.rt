@@ -5,14 +5,14 @@ ghost use Rattle.strip.specs.Answers.{untagged};
 ghost use Rattle.strip.specs.declared.Refusal.TheVariants.{Damaged, BadRank, NoTag};
 ghost use Rattle.bucket_model.specs.Layout.{bit_words, word, head_at, tail_at};
 ghost use Rattle.bucket_model.specs.Checks.{depth_ok, whole_ok, next_of};
-ghost use Rattle.bucket_model.specs.Calls.{is_shaped, is_whole, no_lowest, taken_words, taken_bits};
+ghost use Rattle.bucket_model.specs.Calls.{found_low, is_shaped, is_whole, taken_words, taken_bits};
 ghost use Rattle.bucket_model.specs.Storeys.{storeys_at, rank_agrees};
 ghost use Rattle.bucket_bits.specs.Climbs.{Tall, Switchable};
 ghost use Rattle.bucket_node.specs.Places.{Fits, Takable};
 ghost use Rattle.bucket_step.specs.Tested.{Stands, Roomy, FoundLow, FoundLinks, ends_ok, node_ok, links_ok, links_in, join_ok};
 
 use bucket_bits::{agreement, lowest_rank};
-use bucket_model::{Lay, Lowest, Room};
+use bucket_model::{Bucket, Lay, Spot};
 use bucket_node::{
     LEAST_STOREYS, MOST_STOREYS, free_link, head_of, held_count, next_of, tail_left, tail_of,
 };
@@ -49,14 +49,17 @@ fn whole(top: u64, free: u32, held: u32, n: u32) -> bool
     (free <= n) & (held <= n) & ((free == 0) == (held == n)) & ((top == 0) == (held == 0))
 }
 
+// It, `has_some` and `has_room` differ in the test alone: a function that takes the test as a closure is no shorter than what they share.
 pub fn is_whole(bits: &[u64], words: &[u32], k: Lay) -> bool
     requires { Stands k bits.now words.now }
     ensures { result ≡ is_whole k bits.now words.now }
 {
-    let top = k.bits;
-    let free = free_link(words, k);
-    let held = held_count(words, k);
-    whole(bits[top], free, held, k.nodes)
+    whole(
+        bits[k.bits],
+        free_link(words, k),
+        held_count(words, k),
+        k.nodes,
+    )
 }
 
 // Whole, and something is held: then the top word is not 0.
@@ -70,10 +73,12 @@ pub fn has_some(bits: &[u64], words: &[u32], k: Lay) -> bool
     requires { Stands k bits.now words.now }
     ensures { result ≡ (is_whole k bits.now words.now && not (eqb (word words.now k.held) 0)) }
 {
-    let top = k.bits;
-    let free = free_link(words, k);
-    let held = held_count(words, k);
-    some_held(bits[top], free, held, k.nodes)
+    some_held(
+        bits[k.bits],
+        free_link(words, k),
+        held_count(words, k),
+        k.nodes,
+    )
 }
 
 // Whole, and a node is free: then the free link is not 0.
@@ -87,10 +92,12 @@ pub fn has_room(bits: &[u64], words: &[u32], k: Lay) -> bool
     requires { Stands k bits.now words.now }
     ensures { result ≡ (is_whole k bits.now words.now && not (eqb (word words.now k.held) k.nodes)) }
 {
-    let top = k.bits;
-    let free = free_link(words, k);
-    let held = held_count(words, k);
-    room_left(bits[top], free, held, k.nodes)
+    room_left(
+        bits[k.bits],
+        free_link(words, k),
+        held_count(words, k),
+        k.nodes,
+    )
 }
 
 // Why nothing can be given, or nothing taken in: the limit is met where the queue is whole.
@@ -110,16 +117,14 @@ pub fn limit_or_damage(bits: &[u64], words: &[u32], k: Lay, limit: Refusal) -> R
 pub fn may_come(k: Lay, e: Element) -> bool
     ensures { result ≡ (ltb e.rank.0 k.ranks && not (untagged e)) }
 {
-    let rank = e.rank;
-    (rank.0 < k.ranks) & !is_untagged(e)
+    (e.rank.0 < k.ranks) & !is_untagged(e)
 }
 
 // Why it may not: its rank, and otherwise its tag. It is asked only then, so that a call has one way out for both.
 pub fn rank_or_tag(k: Lay, e: Element) -> Refusal
     ensures { result ≡ cond (ltb e.rank.0 k.ranks) NoTag BadRank }
 {
-    let rank = e.rank;
-    if rank.0 < k.ranks {
+    if e.rank.0 < k.ranks {
         return Refusal::NoTag;
     }
     Refusal::BadRank
@@ -139,52 +144,30 @@ fn ends_fit(words: &[u32], k: Lay, head: u32, tail: u32, next: u32) -> bool
     requires { Fits k words.now }
     ensures { result ≡ ends_ok k.nodes head tail next (next_of k words.now tail) }
 {
-    if k.nodes < next {
-        return false;
-    }
-    if next_of(words, k, tail) != 0 {
-        return false;
-    }
-    (next == 0) == (head == tail)
+    next <= k.nodes && next_of(words, k, tail) == 0 && (next == 0) == (head == tail)
 }
 
-fn no_lowest() -> Lowest
-    ensures { result ≡ no_lowest }
-{
-    Lowest {
-        good: false,
-        rank: 0,
-        head: 0,
-        tail: 0,
-        next: 0,
-    }
-}
-
-pub fn find_lowest(bits: &[u64], words: &[u32], k: Lay) -> Lowest
+// The lowest bucket, where it passes the tests.
+pub fn find_lowest(bits: &[u64], words: &[u32], k: Lay) -> Option<Bucket>
     requires { Stands k bits.now words.now }
     ensures { FoundLow k bits.now words.now result }
 {
-    let found = lowest_rank(bits, k.bits, k.storeys, k.tower);
-    if !found.open {
-        return no_lowest();
-    }
-    let rank = found.rank;
+    let rank = lowest_rank(bits, k.bits, k.storeys, k.tower)?;
     let head = head_of(words, k, rank);
     let tail = tail_of(words, k, rank);
-    if !names_node(k.nodes, head) {
-        return no_lowest();
-    }
-    if !names_node(k.nodes, tail) {
-        return no_lowest();
+    if !(names_node(k.nodes, head) & names_node(k.nodes, tail)) {
+        return None;
     }
     let next = next_of(words, k, head);
-    Lowest {
-        good: ends_fit(words, k, head, tail, next),
+    if !ends_fit(words, k, head, tail, next) {
+        return None;
+    }
+    Some(Bucket {
         rank,
         head,
         tail,
         next,
-    }
+    })
 }
 
 // ---- the bucket that a push joins
@@ -206,30 +189,14 @@ fn links_fit(words: &[u32], k: Lay, head: u32, tail: u32, free: u32) -> bool
     if tail == 0 {
         return head == 0;
     }
-    if !names_node(k.nodes, head) {
-        return false;
-    }
-    if !names_node(k.nodes, tail) {
-        return false;
-    }
-    if tail == free {
-        return false;
-    }
-    next_of(words, k, tail) == 0
+    names_node(k.nodes, head)
+        && names_node(k.nodes, tail)
+        && tail != free
+        && next_of(words, k, tail) == 0
 }
 
-fn no_room() -> Room
-    ensures { result.good ≡ false }
-{
-    Room {
-        good: false,
-        tail: 0,
-        next: 0,
-    }
-}
-
-// Its links, where so many nodes of the pool are in use.
-pub fn find_room(words: &[u32], k: Lay, used: u32, rank: u32) -> Room
+// Its links, where so many nodes of the pool are in use and they pass the tests.
+pub fn find_room(words: &[u32], k: Lay, used: u32, rank: u32) -> Option<Spot>
     requires fits { Fits k words.now }
     requires rank_in { rank < k.ranks }
     requires roomy { Roomy k used words.now }
@@ -238,15 +205,14 @@ pub fn find_room(words: &[u32], k: Lay, used: u32, rank: u32) -> Room
     let free = free_link(words, k);
     let next = next_of(words, k, free);
     if !node_fits(k.nodes, used, next) {
-        return no_room();
+        return None;
     }
     let head = head_of(words, k, rank);
     let tail = tail_of(words, k, rank);
-    Room {
-        good: links_fit(words, k, head, tail, free),
-        tail,
-        next,
+    if !links_fit(words, k, head, tail, free) {
+        return None;
     }
+    Some(Spot { tail, next })
 }
 
 // Its bits: whether they agree with what is below them, a bucket that is empty or not and then the words.
@@ -255,16 +221,15 @@ pub fn agrees(bits: &[u64], k: Lay, rank: u32, empty: bool) -> bool
     requires rank_in { rank < 64 ^ k.storeys }
     ensures { result ≡ rank_agrees k bits.now rank empty }
 {
-    let up = agreement(bits, k.bits, k.storeys, k.tower, false, rank, empty, rank);
-    up.agrees
+    agreement(bits, k.bits, k.storeys, k.tower, false, rank, empty, rank).is_some()
 }
 
 // ---- a replace: what will stand after the pop of low, which is not done yet
 
-fn head_after(words: &[u32], k: Lay, low: Lowest, rank: u32) -> u32
-    requires takable { Takable k words.now low }
+fn head_after(words: &[u32], k: Lay, low: Bucket, rank: u32) -> u32
+    requires takable { Takable k words.now (found_low low) }
     requires rank_in { rank < k.ranks }
-    ensures { result ≡ word (taken_words k words.now low) (head_at k rank) }
+    ensures { result ≡ word (taken_words k words.now (found_low low)) (head_at k rank) }
 {
     if rank == low.rank {
         return low.next;
@@ -272,10 +237,10 @@ fn head_after(words: &[u32], k: Lay, low: Lowest, rank: u32) -> u32
     head_of(words, k, rank)
 }
 
-fn tail_after(words: &[u32], k: Lay, low: Lowest, rank: u32) -> u32
-    requires takable { Takable k words.now low }
+fn tail_after(words: &[u32], k: Lay, low: Bucket, rank: u32) -> u32
+    requires takable { Takable k words.now (found_low low) }
     requires rank_in { rank < k.ranks }
-    ensures { result ≡ word (taken_words k words.now low) (tail_at k rank) }
+    ensures { result ≡ word (taken_words k words.now (found_low low)) (tail_at k rank) }
 {
     if rank == low.rank {
         return tail_left(low.next, low.tail);
@@ -285,27 +250,29 @@ fn tail_after(words: &[u32], k: Lay, low: Lowest, rank: u32) -> u32
 
 // The links of rank's bucket. The node to be taken is then the freed one, and its next the free link of today; so none of the
 // node's tests is new.
-pub fn room_after(words: &[u32], k: Lay, low: Lowest, rank: u32) -> Room
-    requires takable { Takable k words.now low }
+pub fn room_after(words: &[u32], k: Lay, low: Bucket, rank: u32) -> Option<Spot>
+    requires takable { Takable k words.now (found_low low) }
     requires rank_in { rank < k.ranks }
-    ensures { FoundLinks k (taken_words k words.now low) rank (links_in k (taken_words k words.now low) rank) result }
+    ensures { FoundLinks k (taken_words k words.now (found_low low)) rank (links_in k (taken_words k words.now (found_low low)) rank) result }
 {
     let head = head_after(words, k, low, rank);
     let tail = tail_after(words, k, low, rank);
-    Room {
-        good: links_fit(words, k, head, tail, low.head),
+    if !links_fit(words, k, head, tail, low.head) {
+        return None;
+    }
+    Some(Spot {
         tail,
         next: free_link(words, k),
-    }
+    })
 }
 
 // Its bits, and of the tests of the whole queue the only one that is new, the top word's; so many are held before the pop.
-pub fn agrees_after(bits: &[u64], k: Lay, low: Lowest, rank: u32, empty: bool, held: u32) -> bool
+pub fn agrees_after(bits: &[u64], k: Lay, low: Bucket, rank: u32, empty: bool, held: u32) -> bool
     requires tall { Tall bits.now k.bits k.storeys k.tower }
     requires low_in { low.rank < 64 ^ k.storeys }
     requires rank_in { rank < 64 ^ k.storeys }
     requires switchable { Switchable false bits.now (storeys_at k) low.rank }
-    ensures { result ≡ (rank_agrees k (taken_bits k bits.now low) rank empty && beq (eqb (word (taken_bits k bits.now low) k.bits) 0) (eqb held 1)) }
+    ensures { result ≡ (rank_agrees k (taken_bits k bits.now (found_low low)) rank empty && beq (eqb (word (taken_bits k bits.now (found_low low)) k.bits) 0) (eqb held 1)) }
 {
     let up = agreement(
         bits,
@@ -317,5 +284,8 @@ pub fn agrees_after(bits: &[u64], k: Lay, low: Lowest, rank: u32, empty: bool, h
         empty,
         rank,
     );
-    up.agrees & ((up.top == 0) == (held == 1))
+    match up {
+        None => false,
+        Some(top) => (top == 0) == (held == 1),
+    }
 }

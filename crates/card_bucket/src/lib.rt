@@ -11,7 +11,7 @@ pub mod pool;
 
 use card_words::sizes::{bucket_bit_words, bucket_words};
 use card_words::{OUT, tell, tell_count};
-use strip::{Element, Length, Rank, Tag, number};
+use strip::{element_of, number};
 
 pub fn card_bucket_clear(bits: &mut [u64], words: &mut [u32], storeys: u32, nodes: u32) -> u32
     ensures { bucket_after result bits.new words.new ≡ bucket_clear bits.old words.old storeys nodes }
@@ -30,11 +30,7 @@ pub fn card_bucket_push(
 ) -> u32
     ensures { bucket_after result bits.new words.new ≡ bucket_push bits.old words.old storeys nodes rank tag length }
 {
-    let e = Element {
-        rank: Rank(rank),
-        tag: Tag(tag),
-        length: Length(length),
-    };
+    let e = element_of(rank, tag, length);
     number(bucket::push(bits, words, storeys as usize, nodes, e))
 }
 
@@ -69,11 +65,7 @@ pub fn card_bucket_replace(
     if out.len() < OUT {
         return 1;
     }
-    let e = Element {
-        rank: Rank(rank),
-        tag: Tag(tag),
-        length: Length(length),
-    };
+    let e = element_of(rank, tag, length);
     let answer = bucket::replace(bits, words, storeys as usize, nodes, e);
     tell(out, answer)
 }

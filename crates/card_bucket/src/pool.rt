@@ -7,7 +7,7 @@ ghost use Rattle.card_bucket.specs.Ports.{shape, ports_clear, ports_push, ports_
 use card_words::{OUT, tell, tell_count};
 use ports_model::Shape;
 use ports_step::{bit_words, is_numbered, store_words};
-use strip::{Element, Length, Rank, Tag, number};
+use strip::{element_of, number};
 
 fn shape_of(storeys: u32, nodes: u32, ports: u32) -> Shape
     ensures { result ≡ shape storeys nodes ports }
@@ -48,11 +48,7 @@ pub fn card_ports_push(
     ensures { bucket_after result bits.new words.new ≡ ports_push bits.old words.old storeys nodes ports port rank tag length }
 {
     let s = shape_of(storeys, nodes, ports);
-    let e = Element {
-        rank: Rank(rank),
-        tag: Tag(tag),
-        length: Length(length),
-    };
+    let e = element_of(rank, tag, length);
     number(ports::push(bits, words, s, port, e))
 }
 
@@ -93,11 +89,7 @@ pub fn card_ports_replace(
         return 1;
     }
     let s = shape_of(storeys, nodes, ports);
-    let e = Element {
-        rank: Rank(rank),
-        tag: Tag(tag),
-        length: Length(length),
-    };
+    let e = element_of(rank, tag, length);
     let answer = ports::replace(bits, words, s, port, e);
     tell(out, answer)
 }

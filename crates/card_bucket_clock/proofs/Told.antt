@@ -1,11 +1,11 @@
 -- What the clocked bucket queue answers, told: the number, the words, the records and `out` are those of the definitions.
-use Rattle.laws.specs.Prelude.{Answer, Bool, Count, Element, List, Request, ◌&&◌, ◌<◌, ◌∙◌, ◌≡◌, ◌≤◌, and_left, ap, ap₂, arith, blank, cond, count_number, count_of, false, has_run, le-leb, leb, leb-true, length, lt-leb, number_of, refl, set, sym, true, ℕ}
+use Rattle.laws.specs.Prelude.{Answer, Bool, Element, List, Request, ◌&&◌, ◌<◌, ◌∙◌, ◌≡◌, ◌≤◌, and_left, ap, ap₂, arith, blank, cond, count_number, count_of, false, has_run, le-leb, leb, leb-true, length, lt-leb, number_of, refl, set, sym, true, ℕ, Result, Refusal}
 use Rattle.card_words.specs.Asked.{request_of}
 use Rattle.card_words.specs.Out.{count_after, count_answered}
 use Rattle.bucket_model.specs.Prelude.{depth_ok, queue}
 use Rattle.bucket_clock_model.proofs.Places.{counts-lie}
-use Rattle.bucket_clock_model.specs.declared.Maybe.{Maybe}
-use Rattle.bucket_clock_model.specs.declared.Maybe.TheVariants.{None, Some}
+use Rattle.std.specs.Prelude.{Option}
+use Rattle.std.specs.Prelude.{None, Some}
 use Rattle.bucket_clock_model.specs.declared.Waiting.{Waiting}
 use Rattle.bucket_clock_model.specs.Desk.{clock_cleared, clock_held, cycled, CycleOutcome, cycle_outcome, desk, fresh, record_count}
 use Rattle.bucket_clock_records.proofs.Records.{lends-few, lends-within, read-lends}
@@ -45,7 +45,7 @@ counts-none d a b = rw (shallow (leb 2 d) refl (leb d 3) refl) refl
 -- ---- clear and cycle
 module _ (d n : ℕ) (b w c : List ℕ) (rs : List BucketRecord) where
   -- what a by-value call has left, told
-  told : (o : CycleOutcome) (a : Answer) (y : Maybe) (b1 c1 w1 : List ℕ) (gs : List Waiting) (ran : Bool) (k m : ℕ) (rs1 : List BucketRecord)
+  told : (o : CycleOutcome) (a : Answer) (y : Option Element) (b1 c1 w1 : List ℕ) (gs : List Waiting) (ran : Bool) (k m : ℕ) (rs1 : List BucketRecord)
       → cycle_outcome a y (desk b1 c1 w1 gs) ≡ o → ran ≡ has_run a → k ≡ cond ran d 0 → rs1 ≡ works_back k gs rs → m ≡ number_of a → clock_after m b1 w1 c1 rs1 ≡ ended d n b w c rs o
   told o a y b1 c1 w1 gs ran k m rs1 e r q z p =
       let x : rs1 ≡ works_back (cond (has_run a) d 0) gs rs = z ∙ ap (λ (k : ℕ). works_back k gs rs) (q ∙ ap (λ (t : Bool). cond t d 0) r) in
@@ -55,7 +55,7 @@ module _ (d n : ℕ) (b w c : List ℕ) (rs : List BucketRecord) where
   unfolding clock_clear
   clear-short t e f = rw (sym e ∙ f) refl
 
-  pub clear_told : (t : Bool) → t ≡ lends d (length rs) → t ≡ true → (g : List Waiting) → g ≡ fresh → (a : Answer) (y : Maybe) (b1 c1 w1 : List ℕ) (gs : List Waiting) (ran : Bool) (k m : ℕ) (rs1 : List BucketRecord)
+  pub clear_told : (t : Bool) → t ≡ lends d (length rs) → t ≡ true → (g : List Waiting) → g ≡ fresh → (a : Answer) (y : Option Element) (b1 c1 w1 : List ℕ) (gs : List Waiting) (ran : Bool) (k m : ℕ) (rs1 : List BucketRecord)
       → cycle_outcome a y (desk b1 c1 w1 gs) ≡ clock_cleared (queue d n) (desk b c w g) → ran ≡ has_run a → k ≡ cond ran d 0 → rs1 ≡ works_back k gs rs → m ≡ number_of a → clock_after m b1 w1 c1 rs1 ≡ clock_clear d n b w c rs
   unfolding clock_clear
   clear_told t e f g h a y b1 c1 w1 gs ran k m rs1 z r q x p =
@@ -80,7 +80,7 @@ module _ (d n : ℕ) (b w c : List ℕ) (rs : List BucketRecord) where
         pub lent : lends d (length rs) ≡ true
         lent = read-lends (lends d (length rs)) (reach d rs) rs (sym ok-is ∙ and_left read.ok (leb request 3) f)
 
-        pub cycle-told : (q : Request) → q ≡ request_of request rank tag bytes → (a : Answer) (y : Maybe) (b1 c1 w1 : List ℕ) (gs : List Waiting) (ran : Bool) (k m : ℕ) (rs1 : List BucketRecord) (out1 : List ℕ)
+        pub cycle-told : (q : Request) → q ≡ request_of request rank tag bytes → (a : Answer) (y : Option Element) (b1 c1 w1 : List ℕ) (gs : List Waiting) (ran : Bool) (k m : ℕ) (rs1 : List BucketRecord) (out1 : List ℕ)
             → cycle_outcome a y (desk b1 c1 w1 gs) ≡ cycled (queue d n) q (desk b c w read.works) → ran ≡ has_run a → k ≡ cond ran d 0 → rs1 ≡ works_back k gs rs → m ≡ number_of a → out1 ≡ leaves_told y out
             → clock_after_out m b1 w1 c1 rs1 out1 ≡ clock_cycle d n b w c rs request rank tag bytes out
         unfolding clock_cycle
@@ -96,13 +96,13 @@ module _ (d n : ℕ) (b w c out : List ℕ) where
   unfolding count_answered
   held-short h = rw (lt-leb 1 (length out) h) refl
 
-  pub held-told : (r : Count) (m : ℕ) (out1 : List ℕ) → 1 ≤ length out → ((rs : List Waiting) → r ≡ clock_held (queue d n) (desk b c w rs)) → (m ≡ count_number r) × (out1 ≡ set out 0 (count_of r)) → count_after m out1 ≡ clock_held_at d n b w c out
+  pub held-told : (r : Result ℕ Refusal) (m : ℕ) (out1 : List ℕ) → 1 ≤ length out → ((rs : List Waiting) → r ≡ clock_held (queue d n) (desk b c w rs)) → (m ≡ count_number r) × (out1 ≡ set out 0 (count_of r)) → count_after m out1 ≡ clock_held_at d n b w c out
   unfolding count_answered
-  held-told r m out1 h e p = rw (le-leb 1 (length out) h) (ap₂ (λ (i : ℕ) (l : List ℕ). count_after i l) p.0 p.1 ∙ ap (λ (r : Count). count_after (count_number r) (set out 0 (count_of r))) (e fresh))
+  held-told r m out1 h e p = rw (le-leb 1 (length out) h) (ap₂ (λ (i : ℕ) (l : List ℕ). count_after i l) p.0 p.1 ∙ ap (λ (r : Result ℕ Refusal). count_after (count_number r) (set out 0 (count_of r))) (e fresh))
 
 -- ---- `out`
-pub told_none : (y : Maybe) (x : Element) (out out1 : List ℕ) → y ≡ None → x ≡ blank → out1 ≡ leaves_out 0 x out → out1 ≡ leaves_told y out
+pub told_none : (y : Option Element) (x : Element) (out out1 : List ℕ) → y ≡ None → x ≡ blank → out1 ≡ leaves_out 0 x out → out1 ≡ leaves_told y out
 told_none y x out out1 e q p = rw e (p ∙ ap (λ (x : Element). leaves_out 0 x out) q)
 
-pub told-some : (y : Maybe) (x : Element) (out out1 : List ℕ) → y ≡ Some x → out1 ≡ leaves_out 1 x out → out1 ≡ leaves_told y out
+pub told-some : (y : Option Element) (x : Element) (out out1 : List ℕ) → y ≡ Some x → out1 ≡ leaves_out 1 x out → out1 ≡ leaves_told y out
 told-some y x out out1 e p = rw e p

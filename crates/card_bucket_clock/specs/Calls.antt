@@ -5,8 +5,8 @@ use Rattle.laws.specs.Prelude.{Element, List, blank, cond, has_run, leb, length,
 use Rattle.card_words.specs.Asked.{request_of}
 use Rattle.card_words.specs.Out.{bad_shape, CountAfter, count_answered}
 use Rattle.bucket_model.specs.Prelude.{depth_ok, queue}
-use Rattle.bucket_clock_model.specs.declared.Maybe.{Maybe}
-use Rattle.bucket_clock_model.specs.declared.Maybe.TheVariants.{None, Some}
+use Rattle.std.specs.Prelude.{Option}
+use Rattle.std.specs.Prelude.{None, Some}
 use Rattle.bucket_clock_model.specs.Desk.{clock_cleared, clock_held, count_words, cycled, CycleOutcome, desk, fresh}
 use Rattle.bucket_clock_records.specs.Lent.{BucketRecord, lends, read_of, works_back}
 
@@ -40,7 +40,7 @@ leave_words = 4
 abbrev pub leaves_out : ℕ → Element → List ℕ → List ℕ
 leaves_out some x out = set (set (set (set out 0 some) 1 x.rank.0) 2 x.tag.0) 3 x.length.0
 
-abbrev pub leaves_told : Maybe → List ℕ → List ℕ
+abbrev pub leaves_told : Option Element → List ℕ → List ℕ
 leaves_told None out = leaves_out 0 blank out
 leaves_told (Some x) out = leaves_out 1 x out
 

@@ -7,7 +7,6 @@ ghost use Rattle.card_words.specs.Out.{count_after, Long};
 ghost use Rattle.card_bucket_clock.specs.Calls.{clock_after, clock_after_out, clock_clear, clock_counts, clock_cycle, clock_held_at, leaves_out, leaves_told, leave_words};
 
 use bucket_clock::{clear, cycle, fresh_records, held};
-use bucket_clock_model::Maybe;
 use bucket_clock_records::{hand_back, is_lent, load};
 use card_words::{request_of, tell_count};
 use strip::{Element, has_run, no_element, number};
@@ -31,13 +30,13 @@ fn tell_element(out: &mut [u32], some: u32, x: Element)
 }
 
 // An element that leaves, or that none does.
-fn tell_leaves(out: &mut [u32], leaves: Maybe)
+fn tell_leaves(out: &mut [u32], leaves: Option<Element>)
     requires { Long leave_words out.old }
     ensures { out.new ≡ leaves_told leaves out.old }
 {
     match leaves {
-        Maybe::None => tell_element(out, 0, no_element()),
-        Maybe::Some(x) => tell_element(out, 1, x),
+        None => tell_element(out, 0, no_element()),
+        Some(x) => tell_element(out, 1, x),
     }
 }
 
@@ -112,7 +111,7 @@ pub fn card_bucket_clock_cycle(
     let read = load(records, s);
     let works = read.works;
     if !(read.ok & (request <= 3)) {
-        tell_leaves(out, Maybe::None);
+        tell_leaves(out, None);
         return 1;
     }
     let q = request_of(request, rank, tag, length);

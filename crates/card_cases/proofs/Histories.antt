@@ -1,5 +1,5 @@
 -- A list of calls through C from any memory, cleared first: tree, cluster heap and bucket queue. What is heard is the queue's, and so are its promises and its table of refusals.
-use Rattle.laws.specs.Prelude.{Answer, Exactly, Ladder, List, Refusal, Refused, Request, [], ◌∙◌, ◌∷◌, ◌≡◌, ◌≤◌, ap, blank, element, fine, le-leb, length, map, number_of, refl, untagged, ℕ}
+use Rattle.laws.specs.Prelude.{Answer, Exactly, Ladder, List, Refusal, Request, [], ◌∙◌, ◌∷◌, ◌≡◌, ◌≤◌, ap, blank, element, fine, le-leb, length, map, number_of, refl, untagged, ℕ, Err}
 use lib.Dec.{lit≤}
 use Rattle.bucket_model.proofs.Exactly as bucket_table
 use Rattle.bucket_model.proofs.Laws.{answer_of, served-holds, served-least, shape-means}
@@ -106,7 +106,7 @@ module _ (d n : ℕ) (out : List ℕ) (room : answer_words ≤ length out) where
   bucket-is pop s = rw (le-leb answer_words (length out) room)
   bucket-is (replace x) s = rw (le-leb answer_words (length out) room)
 
-  table : (c : Ask) (s : Store) → Exactly (λ (o : Step Answer Store). number_of o.said) (λ n. step (Refused n) s) (bucket_queue k (wanted c) s) (bucket_tables k c s)
+  table : (c : Ask) (s : Store) → Exactly (λ (o : Step Answer Store). number_of o.said) (λ n. step (Err n) s) (bucket_queue k (wanted c) s) (bucket_tables k c s)
   table c s =
       exactly-as (λ (o : bucket.Outcome). number_of o.answer) (λ r. bucket.refused r s.bits s.words) bucket_step (λ (o : Step Answer Store). number_of o.said) (λ o. refl) (asked k (wanted c) s) (bucket_tables k c s)
       (bucket_table.exactly k s.bits s.words (wanted c))

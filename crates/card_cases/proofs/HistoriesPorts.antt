@@ -1,5 +1,5 @@
 -- A list of calls through C at several ports, from any memory, cleared first: what is heard are the answers of the plain lists under 02's rule of acceptance.
-use Rattle.laws.specs.Prelude.{Answer, Exactly, Ladder, List, Refusal, Refused, Request, [], ◌∙◌, ◌∷◌, ◌≡◌, ◌≤◌, ap, fine, le-leb, length, map, means-and, number_of, refl, ℕ}
+use Rattle.laws.specs.Prelude.{Answer, Exactly, Ladder, List, Refusal, Request, [], ◌∙◌, ◌∷◌, ◌≡◌, ◌≤◌, ap, fine, le-leb, length, map, means-and, number_of, refl, ℕ, Err}
 use Rattle.bucket_model.specs.Calls as bucket
 use Rattle.bucket_model.specs.Prelude.{Said, Store, answered, store}
 use Rattle.card_bucket.specs.Bucket.{bucket_answered}
@@ -38,7 +38,7 @@ module _ (d n k : ℕ) (out : List ℕ) (room : answer_words ≤ length out) whe
   port-is p (replace e) x = rw (le-leb answer_words (length out) room)
 
   -- ---- EXACTLY, at each port
-  by-model : (p : ℕ) (c : Ask) (x : Store) → Exactly (λ (o : Step Answer Store). number_of o.said) (λ r. step (Refused r) x) (port_queue s p (wanted c) x) (port_table s p c x)
+  by-model : (p : ℕ) (c : Ask) (x : Store) → Exactly (λ (o : Step Answer Store). number_of o.said) (λ r. step (Err r) x) (port_queue s p (wanted c) x) (port_table s p c x)
   unfolding asked
   by-model p (push e) x =
       exactly-as (λ (o : bucket.Outcome). number_of o.answer) (λ r. bucket.refused r x.bits x.words) step_of (λ (o : Step Answer Store). number_of o.said) (λ o. refl) _ (port_table s p (push e) x) (table.exactly-push s p x.bits x.words e)

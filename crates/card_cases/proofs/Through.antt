@@ -1,5 +1,5 @@
 -- The calls of a queue that does one operation at a time, through C: once for every such queue.
-use Rattle.laws.specs.Prelude.{Answer, Bool, Element, Exactly, Ladder, List, Pop, Push, Refusal, Refused, Replace, Request, [], ◌∙◌, ◌∷◌, ◌≡◌, ◌≤◌, ap, blank, length, map, number_of, refl, subst, sym, ℕ}
+use Rattle.laws.specs.Prelude.{Answer, Bool, Element, Exactly, Ladder, List, Pop, Push, Refusal, Replace, Request, [], ◌∙◌, ◌∷◌, ◌≡◌, ◌≤◌, ap, blank, length, map, number_of, refl, subst, sym, ℕ, Err}
 use Rattle.card_cases.specs.Through.{HeardBeside, refused_c, replies_c, reply_c, through_c}
 use Rattle.card_words.proofs.Heard.{answers-seen, heard-in-step, heard-promised, heard-push, heard-same, heard-told, leaves-seen}
 use Rattle.card_words.specs.Heard.{Ask, heard, heard_all, Heard, pop, push, replace, wanted}
@@ -47,18 +47,18 @@ module _ {S : Type 0} (queue : Request → S → Step Answer S) (kind : (r : Req
       (λ c. subst (λ (v : S). Least (stored v) (wanted c) (queue (wanted c) v).said) (sym (leaves-seen wanted queue cs s)) (least (wanted c)))
 
   -- EXACTLY: each number is returned exactly for its cause, and leaves everything, with zeros in an `out` that is lent
-  pub exactly : (c : Ask) (s : S) (l : Ladder Refusal) → Exactly (λ (o : Step Answer S). number_of o.said) (λ n. step (Refused n) s) (queue (wanted c) s) l
+  pub exactly : (c : Ask) (s : S) (l : Ladder Refusal) → Exactly (λ (o : Step Answer S). number_of o.said) (λ n. step (Err n) s) (queue (wanted c) s) l
       → Exactly (λ (o : Step CountAfter S). o.said.number) (refused_c out c s) (call_c c s) l
   unfolding blank
   exactly (push x) s l e =
       subst (λ (o : Step CountAfter S). Exactly (λ (o : Step CountAfter S). o.said.number) (refused_c out (push x) s) o l) (sym (is (push x) s))
-      (exactly-as (λ (o : Step Answer S). number_of o.said) (λ n. step (Refused n) s) (λ (o : Step Answer S). step (reply_c out (push x) o.said) o.next) (λ (o : Step CountAfter S). o.said.number) (λ o. refl) (queue (Push x) s) l e)
+      (exactly-as (λ (o : Step Answer S). number_of o.said) (λ n. step (Err n) s) (λ (o : Step Answer S). step (reply_c out (push x) o.said) o.next) (λ (o : Step CountAfter S). o.said.number) (λ o. refl) (queue (Push x) s) l e)
   exactly pop s l e =
       subst (λ (o : Step CountAfter S). Exactly (λ (o : Step CountAfter S). o.said.number) (refused_c out pop s) o l) (sym (is pop s))
-      (exactly-as (λ (o : Step Answer S). number_of o.said) (λ n. step (Refused n) s) (λ (o : Step Answer S). step (reply_c out pop o.said) o.next) (λ (o : Step CountAfter S). o.said.number) (λ o. refl) (queue Pop s) l e)
+      (exactly-as (λ (o : Step Answer S). number_of o.said) (λ n. step (Err n) s) (λ (o : Step Answer S). step (reply_c out pop o.said) o.next) (λ (o : Step CountAfter S). o.said.number) (λ o. refl) (queue Pop s) l e)
   exactly (replace x) s l e =
       subst (λ (o : Step CountAfter S). Exactly (λ (o : Step CountAfter S). o.said.number) (refused_c out (replace x) s) o l) (sym (is (replace x) s))
-      (exactly-as (λ (o : Step Answer S). number_of o.said) (λ n. step (Refused n) s) (λ (o : Step Answer S). step (reply_c out (replace x) o.said) o.next) (λ (o : Step CountAfter S). o.said.number) (λ o. refl) (queue (Replace x) s) l e)
+      (exactly-as (λ (o : Step Answer S). number_of o.said) (λ n. step (Err n) s) (λ (o : Step Answer S). step (reply_c out (replace x) o.said) o.next) (λ (o : Step CountAfter S). o.said.number) (λ o. refl) (queue (Replace x) s) l e)
 
 -- ---- a machine on the clock, whose memory holds a by-value machine
 module _ {X S : Type 0} (call_c : Request → X → Step CountAfter X) (queue : Request → S → Step Answer S) (R : X → S → Type 0) (same : (r : Request) (x : X) (s : S) → R x s → heard r (call_c r x).said ≡ (queue r s).said)

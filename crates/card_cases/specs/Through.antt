@@ -15,8 +15,8 @@ use Rattle.card_words.specs.Out.{answer_out, count_after, CountAfter}
 use Rattle.cluster_records.specs.History.{Memory, memory}
 use Rattle.fair_model.specs.Calls.{Desk, desk}
 use Rattle.fair_model.specs.Promise as fair
-use Rattle.fair_model.specs.declared.FairAnswer.{FairAnswer}
-use Rattle.fair_model.specs.declared.FairAnswer.TheVariants.{Accepted, Denied, Served}
+use Rattle.fair_model.specs.Answers.{FairAnswer}
+use Rattle.std.specs.Prelude.{Ok, None, Err, Some}
 use Rattle.fair_model.specs.declared.FairRefusal.{FairRefusal}
 use Rattle.fair_model.specs.declared.FairRefusal.TheVariants.{BadStrip, ClockSpent, NotEmpty, Queue}
 use Rattle.ports_model.specs.Lists as ports
@@ -102,12 +102,12 @@ abbrev pub fair_refusal_of : ℕ → FairRefusal
 fair_refusal_of n = cond (eqb n 9) BadStrip (cond (eqb n 10) ClockSpent (cond (eqb n 11) NotEmpty (Queue (refusal_of n))))
 
 abbrev pub fair_taken : fair.Call → List ℕ → FairAnswer
-fair_taken (fair.push f w n t) out = Accepted
-fair_taken fair.pop out = Served (heard_element out)
-fair_taken fair.reset out = Accepted
+fair_taken (fair.push f w n t) out = Ok None
+fair_taken fair.pop out = Ok (Some (heard_element out))
+fair_taken fair.reset out = Ok None
 
 unfoldable pub fair_hears : fair.Call → CountAfter → FairAnswer
-fair_hears c a = cond (eqb a.number 0) (fair_taken c a.out) (Denied (fair_refusal_of a.number))
+fair_hears c a = cond (eqb a.number 0) (fair_taken c a.out) (Err (fair_refusal_of a.number))
 
 -- ---- a machine on the clock, with the by-value machine s that the memory x holds beside it
 module _ {X S : Type 0} (call_c : Request → X → Step CountAfter X) (queue : Request → S → Step Answer S) (held : S → (Element → Bool) → ℕ) where

@@ -1,5 +1,5 @@
 -- The clocked cluster heap's calls at the boundary: each test and what follows it make the outcome that the definitions say.
-use Rattle.laws.specs.Prelude.{BadShape, Bool, List, Refused, Request, ◌&&◌, ◌<◌, ◌∙◌, ◌≡◌, ◌≤◌, ap, arith, cond, false, le-leb, leb, length, lt-leb, number_of, refl, subst, sym, true, ℕ}
+use Rattle.laws.specs.Prelude.{BadShape, Bool, List, Request, ◌&&◌, ◌<◌, ◌∙◌, ◌≡◌, ◌≤◌, ap, arith, cond, false, le-leb, leb, length, lt-leb, number_of, refl, subst, sym, true, ℕ, Err}
 use mathlib.Core.Bool.{and-false}
 use Rattle.card_words.specs.Out.{drain_out, answer_out, answer_words, drain_words, refused_out}
 use Rattle.card_words.specs.Asked.{request_of}
@@ -23,7 +23,7 @@ pub drain-few : (K levels len : ℕ) (ws : List ℕ) (d : ClusterRead) (budget :
 unfolding drains_from
 drain-few K levels len ws d budget t p = omega (arith, ap (λ (t : ClusterEnded). t.cycles) p, go (lends levels len && d.ok))
   where
-    go : (b : Bool) → (cond b (drains K levels budget d.stages ws) (drain_outcome (Refused BadShape) 0 false ws d.stages)).cycles ≤ budget
+    go : (b : Bool) → (cond b (drains K levels budget d.stages ws) (drain_outcome (Err BadShape) 0 false ws d.stages)).cycles ≤ budget
     go true = drain-within K levels budget d.stages ws
     go false = omega arith
 

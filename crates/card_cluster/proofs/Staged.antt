@@ -1,5 +1,5 @@
 -- The clocked cluster heap's exported calls: a refused one answers zeros, and each is pinned.
-use Rattle.laws.specs.Prelude.{BadShape, Bool, List, Refused, ◌&&◌, ◌-◌, ◌∙◌, ◌≡◌, ap, cond, false, leb, length, number_of, refl, sym, true, ℕ}
+use Rattle.laws.specs.Prelude.{BadShape, Bool, List, ◌&&◌, ◌-◌, ◌∙◌, ◌≡◌, ap, cond, false, leb, length, number_of, refl, sym, true, ℕ, Err}
 use Rattle.card_words.proofs.Out.{told-zeros, zeros-held}
 use Rattle.card_words.specs.Out.{drain_out, answer_words, bad_shape, count_after, CountAfter, drain_words, refused_out, zeros}
 use Rattle.card_words.specs.Asked.{request_of}
@@ -20,7 +20,7 @@ drain-bad K levels rs ws budget = go (readable (levels - 1) rs)
     qs = stages_read (levels - 1) rs
 
     left : Bool → LentDrain
-    left b = cond b (lent.drain_of levels rs (drains K levels budget qs ws)) (lent_drain (Refused BadShape) 0 false ws rs)
+    left b = cond b (lent.drain_of levels rs (drains K levels budget qs ws)) (lent_drain (Err BadShape) 0 false ws rs)
 
     go : (b : Bool) → number_of (left b).answer ≡ 1 → ((left b).cycles ≡ 0) × ((left b).left ≡ false)
     go false h = (refl, refl)

@@ -1,7 +1,7 @@
 -- The calls of the clocked cluster heap as C sees them: total functions of all numbers, words and records handed in, to the number returned and all words
 -- and records afterwards.
 use Rattle.std.specs.Prelude.{◌&&◌}
-use Rattle.laws.specs.Prelude.{BadShape, List, Refused, cond, false, leb, length, number_of, ℕ}
+use Rattle.laws.specs.Prelude.{BadShape, List, cond, false, leb, length, number_of, ℕ, Err}
 use Rattle.card_words.specs.Out.{drain_out, answer_out, answer_words, bad_shape, CountAfter, count_answered, drain_words, refused_out}
 use Rattle.card_words.specs.Asked.{request_of}
 use Rattle.cluster_clock_model.specs.Prelude.{CycleOutcome, DrainOutcome, clock_held}
@@ -78,7 +78,7 @@ told_out t ws out = record { ended = t; store = ws; out = out }
 
 -- where the boundary says no, none, whatever was read
 abbrev pub none_ended : List Stage → ClusterEnded
-none_ended qs = ended_by (Refused BadShape) 0 false qs 0
+none_ended qs = ended_by (Err BadShape) 0 false qs 0
 
 module _ (K levels len : ℕ) (ws : List ℕ) where
   abbrev pub clear_told : Told

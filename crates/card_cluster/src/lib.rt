@@ -12,7 +12,7 @@ pub mod stages;
 
 use card_words::sizes::cluster_words;
 use card_words::{OUT, tell, tell_count};
-use strip::{Element, Length, Rank, Tag, number};
+use strip::{element_of, number};
 
 pub fn card_cluster_clear(store: &mut [u32], places: u32, levels: u32) -> u32
     ensures { store_after result store.new ≡ cluster_clear places levels store.old }
@@ -30,11 +30,7 @@ pub fn card_cluster_push(
 ) -> u32
     ensures { store_after result store.new ≡ cluster_push places levels store.old rank tag length }
 {
-    let x = Element {
-        rank: Rank(rank),
-        tag: Tag(tag),
-        length: Length(length),
-    };
+    let x = element_of(rank, tag, length);
     number(cluster::push(store, places as usize, levels as usize, x))
 }
 
@@ -62,11 +58,7 @@ pub fn card_cluster_replace(
     if out.len() < OUT {
         return 1;
     }
-    let x = Element {
-        rank: Rank(rank),
-        tag: Tag(tag),
-        length: Length(length),
-    };
+    let x = element_of(rank, tag, length);
     let answer = cluster::replace(store, places as usize, levels as usize, x);
     tell(out, answer)
 }

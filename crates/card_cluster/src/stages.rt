@@ -16,8 +16,7 @@ use cluster_records::{ClusterEnded, ClusterRead, refused};
 fn none_ended(read: ClusterRead) -> ClusterEnded
     ensures { result ≡ none_ended read.stages }
 {
-    let stages = read.stages;
-    refused(stages)
+    refused(read.stages)
 }
 
 fn clear_told(store: &mut [u32], places: u32, levels: u32, len: usize) -> ClusterEnded
@@ -49,8 +48,7 @@ fn cycle_told(
     }
     let q = request_of(request, rank, tag, length);
     let ended = cycle_read(store, places as usize, levels as usize, len, read, q);
-    let answer = ended.answer;
-    tell(out, answer);
+    tell(out, ended.answer);
     ended
 }
 

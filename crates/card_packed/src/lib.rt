@@ -8,7 +8,7 @@ ghost use Rattle.card_packed.specs.Packed.{packed_clear, packed_held, packed_pop
 
 use card_words::{OUT, tell, tell_count};
 use packed_way::power;
-use strip::{Element, Length, Rank, Tag, number};
+use strip::{element_of, number};
 
 pub fn card_packed_clear(store: &mut [u32], heaps: u32, levels: u32) -> u32
     ensures { store_after result store.new ≡ packed_clear heaps levels store.old }
@@ -27,11 +27,7 @@ pub fn card_packed_push(
 ) -> u32
     ensures { store_after result store.new ≡ packed_push heaps levels heap store.old rank tag length }
 {
-    let x = Element {
-        rank: Rank(rank),
-        tag: Tag(tag),
-        length: Length(length),
-    };
+    let x = element_of(rank, tag, length);
     number(packed::push(store, heaps as usize, levels as usize, heap as usize, x))
 }
 
@@ -66,11 +62,7 @@ pub fn card_packed_replace(
     if out.len() < OUT {
         return 1;
     }
-    let x = Element {
-        rank: Rank(rank),
-        tag: Tag(tag),
-        length: Length(length),
-    };
+    let x = element_of(rank, tag, length);
     let answer = packed::replace(store, heaps as usize, levels as usize, heap as usize, x);
     tell(out, answer)
 }

@@ -4,8 +4,8 @@ use Rattle.card_words.proofs.Out.{zeros-held}
 use Rattle.card_tree.specs.Fair.{fair_after, FairAfter, fair_after_out, FairAfterOut, fair_answered, fair_done, fair_held, fair_out, fair_pop, fair_push, fair_reset}
 use Rattle.card_words.specs.Out.{answer_words, bad_shape, count_after, CountAfter, refused_out, zeros}
 use Rattle.fair_model.specs.Calls.{answer_number, desk, pops, Reply, reply}
-use Rattle.fair_model.specs.declared.FairAnswer.{FairAnswer}
-use Rattle.fair_model.specs.declared.FairAnswer.TheVariants.{Accepted, Denied, Served}
+use Rattle.fair_model.specs.Answers.{FairAnswer}
+use Rattle.std.specs.Prelude.{Ok, None, Err, Some}
 use Rattle.tree_model.specs.Prelude.{held_count}
 
 -- ---- told
@@ -29,9 +29,9 @@ module _ (o : Reply) where
 -- ---- ZEROS: a refused call answers zeros wherever `out` is long enough, and does not touch one that is too short
 served-zeros : (a : FairAnswer) (out : List ℕ) → (answer_number a ≡ 0 → ⊥) → fair_out a out ≡ zeros answer_words out
 unfolding blank
-served-zeros Accepted out h = absurd (h refl)
-served-zeros (Served e) out h = absurd (h refl)
-served-zeros (Denied r) out h = refl
+served-zeros (Ok None) out h = absurd (h refl)
+served-zeros (Ok (Some e)) out h = absurd (h refl)
+served-zeros (Err r) out h = refl
 
 -- two outcomes of one statement
 one : {n k : ℕ} {a b v w : List ℕ} → fair_after n a v ≡ fair_after k b w → (n ≡ k) × (a ≡ b) × (v ≡ w)

@@ -1,52 +1,48 @@
 -- What the check and the mender answer, told; a refusal's zeros; and that each contract allows one outcome.
-use Rattle.laws.specs.Prelude.{Bool, List, ◌<◌, ◌∙◌, ◌≡◌, ◌≤◌, ap, cond, false, le-leb, leb, length, lt-leb, refl, set, sym, true, ℕ}
+use Rattle.std.specs.Prelude.{Err, Ok, Option, Result}
+use Rattle.laws.specs.Prelude.{Bool, List, Refusal, ◌<◌, ◌∙◌, ◌≡◌, ◌≤◌, ap, cond, false, le-leb, leb, length, lt-leb, refl, set, sym, true, ℕ}
 use Rattle.card_tree.specs.Mend.{check_answered, check_out, mend_answered, mend_out, tree_check, tree_mend}
 use Rattle.card_words.specs.Out.{bad_shape, count_after, CountAfter, refused_out}
 use Rattle.card_words.specs.Store.{store_after_out, StoreAfterOut}
 use Rattle.tree_mend_model.specs.Check.{checked, check_number}
 use Rattle.tree_mend_model.specs.Mend.{Mended, mended, mended_as, mend_number}
-use Rattle.tree_mend_model.specs.declared.Check.{Check}
-use Rattle.tree_mend_model.specs.declared.Check.TheVariants.{Broken, Unchecked, Whole}
-use Rattle.tree_mend_model.specs.declared.Mend.{Mend}
-use Rattle.tree_mend_model.specs.declared.Mend.TheVariants.{Skipped, Unmended}
 
 -- ---- told
-module _ (c : Check) (out : List ℕ) where
+module _ (c : Result (Option ℕ) Refusal) (out : List ℕ) where
   pub check-short : length out < 2 → count_after 1 out ≡ check_answered c out
   unfolding check_answered
   check-short h = rw (lt-leb 2 (length out) h)
 
-  pub check-told : (d : Check) (n : ℕ) (after : List ℕ) → 2 ≤ length out → d ≡ c → (n ≡ check_number d) × (after ≡ check_out d out) → count_after n after ≡ check_answered c out
+  pub check-told : (d : Result (Option ℕ) Refusal) (n : ℕ) (after : List ℕ) → 2 ≤ length out → d ≡ c → (n ≡ check_number d) × (after ≡ check_out d out) → count_after n after ≡ check_answered c out
   unfolding check_answered
-  check-told d n after h e p = rw (le-leb 2 (length out) h) ((λ i. record { number = p.0 i; out = p.1 i }) ∙ ap (λ (c : Check). count_after (check_number c) (check_out c out)) e)
+  check-told d n after h e p = rw (le-leb 2 (length out) h) ((λ i. record { number = p.0 i; out = p.1 i }) ∙ ap (λ (c : Result (Option ℕ) Refusal). count_after (check_number c) (check_out c out)) e)
 
 module _ (o : Mended) (to out : List ℕ) where
   pub mend-short : length out < 1 → store_after_out 1 to out ≡ mend_answered o to out
   unfolding mend_answered
   mend-short h = rw (lt-leb 1 (length out) h)
 
-  pub mend-told : (a : Mend) (n : ℕ) (left after : List ℕ) → 1 ≤ length out → mended_as a left ≡ o → (n ≡ mend_number a) × (after ≡ mend_out a out) → store_after_out n left after ≡ mend_answered o to out
+  pub mend-told : (a : Result ℕ Refusal) (n : ℕ) (left after : List ℕ) → 1 ≤ length out → mended_as a left ≡ o → (n ≡ mend_number a) × (after ≡ mend_out a out) → store_after_out n left after ≡ mend_answered o to out
   unfolding mend_answered
   mend-told a n left after h e p =
       rw (le-leb 1 (length out) h)
       ((λ i. record { number = p.0 i; store = left; out = p.1 i }) ∙ ap (λ (o : Mended). store_after_out (mend_number o.answer) o.words (mend_out o.answer out)) e)
 
 -- ---- ZEROS: a refused call answers zeros wherever `out` is long enough, and does not touch one that is too short
-check-zeros : (c : Check) (out : List ℕ) → (check_number c ≡ 0 → ⊥) → check_out c out ≡ set (set out 0 0) 1 0
-check-zeros Whole out h = absurd (h refl)
-check-zeros (Broken p) out h = absurd (h refl)
-check-zeros (Unchecked r) out h = refl
+check-zeros : (c : Result (Option ℕ) Refusal) (out : List ℕ) → (check_number c ≡ 0 → ⊥) → check_out c out ≡ set (set out 0 0) 1 0
+check-zeros (Ok p) out h = absurd (h refl)
+check-zeros (Err r) out h = refl
 
-mend-zeros : (a : Mend) (out : List ℕ) → (mend_number a ≡ 0 → ⊥) → mend_out a out ≡ set out 0 0
-mend-zeros (Skipped n) out h = absurd (h refl)
-mend-zeros (Unmended r) out h = refl
+mend-zeros : (a : Result ℕ Refusal) (out : List ℕ) → (mend_number a ≡ 0 → ⊥) → mend_out a out ≡ set out 0 0
+mend-zeros (Ok n) out h = absurd (h refl)
+mend-zeros (Err r) out h = refl
 
 module _ (m levels : ℕ) (ws : List ℕ) where
   pub zeros-tree-check : (out : List ℕ) → ((tree_check m levels ws out).number ≡ 0 → ⊥) → (tree_check m levels ws out).out ≡ refused_out 2 out
   unfolding check_answered refused_out
   zeros-tree-check out h = go (checked m levels ws) (leb 2 (length out)) h
     where
-      go : (c : Check) (b : Bool) → ((cond b (count_after (check_number c) (check_out c out)) (count_after bad_shape out)).number ≡ 0 → ⊥)
+      go : (c : Result (Option ℕ) Refusal) (b : Bool) → ((cond b (count_after (check_number c) (check_out c out)) (count_after bad_shape out)).number ≡ 0 → ⊥)
           → (cond b (count_after (check_number c) (check_out c out)) (count_after bad_shape out)).out ≡ cond b (set (set out 0 0) 1 0) out
       go c true h = check-zeros c out h
       go c false h = refl

@@ -2,7 +2,7 @@
 use Rattle.laws.specs.Prelude.{List, cond, leb, length, set, ℕ}
 use Rattle.card_words.specs.Out.{answer_words, bad_shape, CountAfter, count_answered}
 use Rattle.fair_model.specs.Calls.{answer_number, desk, pops, pushes, Reply, resets, served_element, state_words}
-use Rattle.fair_model.specs.declared.FairAnswer.{FairAnswer}
+use Rattle.fair_model.specs.Answers.{FairAnswer}
 use Rattle.tree_model.specs.Prelude.{held_count}
 
 -- ---- reset and push: the number, state and store afterwards

@@ -13,7 +13,7 @@ pub mod weights;
 
 use card_words::sizes::tree_words;
 use card_words::{OUT, tell, tell_count};
-use strip::{Element, Length, Rank, Tag, number};
+use strip::{element_of, number};
 
 pub fn card_tree_clear(store: &mut [u32], order: u32, levels: u32) -> u32
     ensures { store_after result store.new ≡ tree_clear order levels store.old }
@@ -31,11 +31,7 @@ pub fn card_tree_push(
 ) -> u32
     ensures { store_after result store.new ≡ tree_push order levels store.old rank tag length }
 {
-    let x = Element {
-        rank: Rank(rank),
-        tag: Tag(tag),
-        length: Length(length),
-    };
+    let x = element_of(rank, tag, length);
     number(tree::push(store, order as usize, levels as usize, x))
 }
 
@@ -63,11 +59,7 @@ pub fn card_tree_replace(
     if out.len() < OUT {
         return 1;
     }
-    let x = Element {
-        rank: Rank(rank),
-        tag: Tag(tag),
-        length: Length(length),
-    };
+    let x = element_of(rank, tag, length);
     let answer = tree::replace(store, order as usize, levels as usize, x);
     tell(out, answer)
 }

@@ -6,14 +6,14 @@ ghost use Rattle.card_words.specs.Out.{count_after};
 ghost use Rattle.card_words.specs.Store.{store_after_out};
 ghost use Rattle.card_tree.specs.Mend.{check_out, mend_out, tree_check, tree_mend};
 
+use strip::Refusal;
 use tree_mend::numbers::{check_number, check_slot, check_yes, mend_number, mend_skipped};
-use tree_mend_model::{Check, Mend};
 
 // The words of a check's answer: 1 for yes, and the slot that is named.
 const CHECK_OUT: usize = 2;
 
 // Writes a check's answer, zeros on a refusal, and returns its number.
-fn tell_check(out: &mut [u32], c: Check) -> u32
+fn tell_check(out: &mut [u32], c: Result<Option<u32>, Refusal>) -> u32
     requires { 2 ≤ length out.old }
     ensures { (result ≡ check_number c) × (out.new ≡ check_out c out.old) }
 {
@@ -23,7 +23,7 @@ fn tell_check(out: &mut [u32], c: Check) -> u32
 }
 
 // Writes how many were skipped, 0 on a refusal, and returns the mending's number.
-fn tell_mend(out: &mut [u32], a: Mend) -> u32
+fn tell_mend(out: &mut [u32], a: Result<u32, Refusal>) -> u32
     requires { 1 ≤ length out.old }
     ensures { (result ≡ mend_number a) × (out.new ≡ mend_out a out.old) }
 {

@@ -8,7 +8,7 @@ use card_words::{OUT, tell_count};
 use fair::STATE_WORDS;
 use fair::numbers::{given, number};
 use fair_model::{FairAnswer, Flow, Weight};
-use strip::{Length, Tag};
+use strip::{Length, Tag, write_element};
 
 // How many words a state has.
 pub fn card_fair_words() -> usize
@@ -22,13 +22,7 @@ fn tell_served(out: &mut [u32], answer: FairAnswer) -> u32
     requires { Long answer_words out.old }
     ensures { (result ≡ answer_number answer) × (out.new ≡ fair_out answer out.old) }
 {
-    let e = given(answer);
-    let rank = e.rank.0;
-    let tag = e.tag.0;
-    let length = e.length.0;
-    out[0] = rank;
-    out[1] = tag;
-    out[2] = length;
+    write_element(out, 0, given(answer));
     number(answer)
 }
 

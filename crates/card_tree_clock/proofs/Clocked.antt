@@ -1,5 +1,5 @@
 -- The clocked calls at the boundary: each test and what follows it make the outcome that the definitions say.
-use Rattle.laws.specs.Prelude.{BadShape, Bool, List, Refused, Request, ◌&&◌, ◌<◌, ◌∙◌, ◌≡◌, ◌≤◌, ap, arith, cond, eq-eqb, eqb, false, le-leb, leb, length, lt-leb, ne_eqb, not, not-false, not-true, number_of, refl, set, sym, true, ℕ}
+use Rattle.laws.specs.Prelude.{BadShape, Bool, List, Request, ◌&&◌, ◌<◌, ◌∙◌, ◌≡◌, ◌≤◌, ap, arith, cond, eq-eqb, eqb, false, le-leb, leb, length, lt-leb, ne_eqb, not, not-false, not-true, number_of, refl, set, sym, true, ℕ, Err}
 use mathlib.Core.Bool.{and-false}
 use Rattle.card_tree_clock.specs.Clocked.{clear_left, clear_of, clear_told, clocked_after, ClockedAfter, clocked_after_out, ClockedAfterOut, clocked_clear, clocked_cycle, clocked_drain, cycle_left, cycle_of, cycle_told, drain_left, drain_of, drain_told, none_left, none_ended, says_no, told, Told, told_out, ToldOut}
 use Rattle.card_words.specs.Asked.{asked, marked, mark_in, mark_out, request_of}
@@ -45,7 +45,7 @@ pub drain-few : (m levels len : ℕ) (mark : Bool) (ws : List ℕ) (d : Read) (b
 unfolding drain_from
 drain-few m levels len mark ws d budget t p = omega (arith, ap (λ (t : Ended). t.cycles) p, go (lends levels len && d.ok))
   where
-    go : (b : Bool) → (cond b (drains m levels budget (state_of d mark) ws) (drain_outcome (Refused BadShape) 0 false ws (state_of d mark))).cycles ≤ budget
+    go : (b : Bool) → (cond b (drains m levels budget (state_of d mark) ws) (drain_outcome (Err BadShape) 0 false ws (state_of d mark))).cycles ≤ budget
     go true = drain-within m levels budget (state_of d mark) ws
     go false = omega arith
 

@@ -1,7 +1,7 @@
 -- The calls of the clocked tree as C sees them: total functions of all numbers, words and records handed in, to the number returned and all words and
 -- records afterwards.
 use Rattle.std.specs.Prelude.{◌&&◌}
-use Rattle.laws.specs.Prelude.{BadShape, List, Refused, cond, eqb, false, leb, length, number_of, ℕ}
+use Rattle.laws.specs.Prelude.{BadShape, List, cond, eqb, false, leb, length, number_of, ℕ, Err}
 use Rattle.card_words.specs.Out.{answer_out, answer_words, bad_shape, CountAfter, count_answered, drain_out, drain_words, refused_out}
 use Rattle.card_words.specs.Asked.{asked, marked, mark_in, mark_out, request_of}
 use Rattle.tree_clock_model.specs.Prelude.{CycleOutcome, DrainOutcome, fresh}
@@ -85,7 +85,7 @@ told_out t ws mark out = record { ended = t; store = ws; mark = mark; out = out 
 
 -- where the boundary says no, none, whatever was read
 abbrev pub none_ended : List Work → Ended
-none_ended vs = ended (Refused BadShape) 0 false (record { records = vs; mark = false }) 0
+none_ended vs = ended (Err BadShape) 0 false (record { records = vs; mark = false }) 0
 
 module _ (m levels len : ℕ) (ws mark : List ℕ) where
   abbrev pub clear_left : CycleOutcome → Told

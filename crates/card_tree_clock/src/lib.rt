@@ -7,13 +7,14 @@ ghost use Rattle.card_words.specs.Out.{count_after};
 ghost use Rattle.card_tree_clock.specs.Clocked.{clocked_after, clocked_after_out, none_ended, told, told_out, clear_told, cycle_told, drain_told, clocked_clear, clocked_cycle, clocked_drain, clocked_held};
 
 use card_words::{
-    DRAIN_OUT, OUT, bit, is_asked, is_marked, refuse, request_of, tell, tell_count, tell_drain,
+    DRAIN_OUT, OUT, is_asked, is_marked, refuse, request_of, tell, tell_count, tell_drain,
 };
+use strip::number;
 use tree_clock::{fresh_state, held};
 use tree_clock_model::State;
 use tree_records::calls::{clear_beside, cycle_read, drain_read};
 use tree_records::memory::{hand_back, load};
-use tree_records::{Ended, Read, Record, number_of, refused};
+use tree_records::{Ended, Read, Record, refused};
 
 // ---- the calls on what was read of the records: store, mark and `out` are written, and what is left says what to write of the records
 
@@ -37,7 +38,7 @@ fn clear_told(store: &mut [u32], order: u32, levels: u32, len: usize, mark: &mut
     }
     let on = mark[0] == 1;
     let ended = clear_beside(store, order as usize, levels as usize, len, on);
-    if number_of(ended) == 0 {
+    if number(ended.answer) == 0 {
         mark[0] = 0;
     }
     ended
@@ -69,7 +70,7 @@ fn cycle_told(
     let q = request_of(request, rank, tag, length);
     let ended = cycle_read(store, order as usize, levels as usize, len, read, on, q);
     let answer = ended.answer;
-    mark[0] = bit(ended.state.mark);
+    mark[0] = u32::from(ended.state.mark);
     tell(out, answer);
     ended
 }
@@ -103,7 +104,7 @@ fn drain_told(
         on,
         budget as usize,
     );
-    mark[0] = bit(ended.state.mark);
+    mark[0] = u32::from(ended.state.mark);
     tell_drain(out, ended.cycles as u32, ended.left);
     ended
 }

@@ -1,12 +1,12 @@
 -- What is heard is what the queue answered, and so what is promised of a list of its calls holds of the numbers and words that C gets. Once for every queue.
-use Rattle.laws.specs.Prelude.{Answer, BadPort, BadRank, BadShape, Bool, Damaged, Done, Element, Empty, Full, Idle, List, NoHeap, NoTag, Out, Pop, Push, Refusal, Refused, Replace, Request, TooSoon, [], ◌+◌, ◌∙◌, ◌∷◌, ◌≡◌, ◌≤◌, ap, ap₂, arith, length, map, number_of, refl, subst, sym, ℕ}
+use Rattle.laws.specs.Prelude.{Answer, BadPort, BadRank, BadShape, Bool, Damaged, Element, Empty, Full, Idle, List, NoHeap, NoTag, Pop, Push, Refusal, Replace, Request, TooSoon, [], ◌+◌, ◌∙◌, ◌∷◌, ◌≡◌, ◌≤◌, ap, ap₂, arith, length, map, number_of, refl, subst, sym, ℕ, Ok, None, Some, Err}
 use Rattle.strip.proofs.Words.{write-back}
 use Rattle.card_words.specs.Heard.{heard, heard_all, Heard, heard_element}
 use Rattle.card_words.specs.Out.{answer_out, answer_words, count_after, CountAfter}
 use Rattle.promise.specs.Prelude.{Holds, Kind, Least, Step, all_brought, all_given, answers, least-same, leaves}
 
 -- ---- one answer
-heard-refused : (r : Request) (n : Refusal) (out : List ℕ) → heard r (count_after (number_of (Refused n)) out) ≡ Refused n
+heard-refused : (r : Request) (n : Refusal) (out : List ℕ) → heard r (count_after (number_of (Err n)) out) ≡ Err n
 unfolding heard
 heard-refused r BadShape out = refl
 heard-refused r Damaged out = refl
@@ -19,7 +19,7 @@ heard-refused r BadPort out = refl
 heard-refused r NoHeap out = refl
 
 -- an element's words
-element-heard : (e : Element) (out : List ℕ) → answer_words ≤ length out → heard_element (answer_out (Out e) out) ≡ e
+element-heard : (e : Element) (out : List ℕ) → answer_words ≤ length out → heard_element (answer_out (Ok (Some e)) out) ≡ e
 element-heard e out h = write-back out 0 e (omega arith)
 
 -- an answer whose words were written
@@ -27,29 +27,29 @@ pub heard-told : (r : Request) (a : Answer) (out : List ℕ) → answer_words �
 unfolding heard
 heard-told Idle a out h k = go a k
   where
-    go : (a : Answer) → (number_of a ≡ 0 → a ≡ Done) → heard Idle (count_after (number_of a) (answer_out a out)) ≡ a
-    go Done k = refl
-    go (Out e) k = sym (k refl)
-    go (Refused n) k = heard-refused Idle n (answer_out (Refused n) out)
+    go : (a : Answer) → (number_of a ≡ 0 → a ≡ Ok None) → heard Idle (count_after (number_of a) (answer_out a out)) ≡ a
+    go (Ok None) k = refl
+    go (Ok (Some e)) k = sym (k refl)
+    go (Err n) k = heard-refused Idle n (answer_out (Err n) out)
 heard-told (Push x) a out h k = go a k
   where
-    go : (a : Answer) → (number_of a ≡ 0 → a ≡ Done) → heard (Push x) (count_after (number_of a) (answer_out a out)) ≡ a
-    go Done k = refl
-    go (Out e) k = sym (k refl)
-    go (Refused n) k = heard-refused (Push x) n (answer_out (Refused n) out)
-heard-told Pop Done out h k = absurd (k refl)
-heard-told Pop (Out e) out h k = ap Out (element-heard e out h)
-heard-told Pop (Refused n) out h k = heard-refused Pop n (answer_out (Refused n) out)
-heard-told (Replace x) Done out h k = absurd (k refl)
-heard-told (Replace x) (Out e) out h k = ap Out (element-heard e out h)
-heard-told (Replace x) (Refused n) out h k = heard-refused (Replace x) n (answer_out (Refused n) out)
+    go : (a : Answer) → (number_of a ≡ 0 → a ≡ Ok None) → heard (Push x) (count_after (number_of a) (answer_out a out)) ≡ a
+    go (Ok None) k = refl
+    go (Ok (Some e)) k = sym (k refl)
+    go (Err n) k = heard-refused (Push x) n (answer_out (Err n) out)
+heard-told Pop (Ok None) out h k = absurd (k refl)
+heard-told Pop (Ok (Some e)) out h k = ap (λ (x : Element). Ok (Some x)) (element-heard e out h)
+heard-told Pop (Err n) out h k = heard-refused Pop n (answer_out (Err n) out)
+heard-told (Replace x) (Ok None) out h k = absurd (k refl)
+heard-told (Replace x) (Ok (Some e)) out h k = ap (λ (x : Element). Ok (Some x)) (element-heard e out h)
+heard-told (Replace x) (Err n) out h k = heard-refused (Replace x) n (answer_out (Err n) out)
 
 -- an answer that is a number alone, as a push's and a drain's are
-pub heard-push : (x : Element) (a : Answer) (out : List ℕ) → (number_of a ≡ 0 → a ≡ Done) → heard (Push x) (count_after (number_of a) out) ≡ a
+pub heard-push : (x : Element) (a : Answer) (out : List ℕ) → (number_of a ≡ 0 → a ≡ Ok None) → heard (Push x) (count_after (number_of a) out) ≡ a
 unfolding heard
-heard-push x Done out k = refl
-heard-push x (Out e) out k = sym (k refl)
-heard-push x (Refused n) out k = heard-refused (Push x) n out
+heard-push x (Ok None) out k = refl
+heard-push x (Ok (Some e)) out k = sym (k refl)
+heard-push x (Err n) out k = heard-refused (Push x) n out
 
 -- ---- a list of calls: where each is heard as the queue answers it and keeps what relates the two states, a list of them is and does
 module _ {C A X S : Type 0} (hears : C → CountAfter → A) (call_c : C → X → Step CountAfter X) (queue : C → S → Step A S) (R : X → S → Type 0)

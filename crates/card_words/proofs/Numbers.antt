@@ -1,19 +1,19 @@
 -- What `out` receives and what is handed in, in plain numbers, all different.
-use Rattle.laws.specs.Prelude.{Damaged, Done, Empty, Held, Idle, Out, Pop, Push, Refused, Replace, Unknown, [], ◌∷◌, ◌≡◌, blank, false, refl, true}
+use Rattle.laws.specs.Prelude.{Damaged, Empty, Idle, Pop, Push, Replace, [], ◌∷◌, ◌≡◌, blank, false, refl, true, Ok, Err, None, Some}
 use Rattle.card_words.specs.Asked.{asked, marked, mark_in, mark_out, request_of}
 use Rattle.card_words.specs.Heard.{heard}
 use Rattle.card_words.specs.Out.{answer_out, count_after, count_answered, drain_out, refused_out}
 
 -- ---- on the way out
 -- "Rank and tag exchanged: 5/50 comes out as 50/5" is the first of 01's mistakes
-pub told-answer : answer_out (Out (record { rank = record { 0 = 5 }; tag = record { 0 = 50 }; length = record { 0 = 500 } })) (9 ∷ 8 ∷ 7 ∷ 6 ∷ []) ≡ 5 ∷ 50 ∷ 500 ∷ 6 ∷ []
+pub told-answer : answer_out (Ok (Some (record { rank = record { 0 = 5 }; tag = record { 0 = 50 }; length = record { 0 = 500 } }))) (9 ∷ 8 ∷ 7 ∷ 6 ∷ []) ≡ 5 ∷ 50 ∷ 500 ∷ 6 ∷ []
 told-answer = refl
 
-pub told-done : answer_out Done (9 ∷ 8 ∷ 7 ∷ 6 ∷ []) ≡ 0 ∷ 0 ∷ 0 ∷ 6 ∷ []
+pub told-done : answer_out (Ok None) (9 ∷ 8 ∷ 7 ∷ 6 ∷ []) ≡ 0 ∷ 0 ∷ 0 ∷ 6 ∷ []
 unfolding blank
 told-done = refl
 
-pub told-refused : answer_out (Refused Empty) (9 ∷ 8 ∷ 7 ∷ 6 ∷ []) ≡ 0 ∷ 0 ∷ 0 ∷ 6 ∷ []
+pub told-refused : answer_out (Err Empty) (9 ∷ 8 ∷ 7 ∷ 6 ∷ []) ≡ 0 ∷ 0 ∷ 0 ∷ 6 ∷ []
 unfolding blank
 told-refused = refl
 
@@ -23,11 +23,11 @@ told-drain = refl
 pub told-drained : drain_out 5 false (9 ∷ 8 ∷ 7 ∷ []) ≡ 5 ∷ 0 ∷ 7 ∷ []
 told-drained = refl
 
-pub told-held : count_answered (Held 5) (9 ∷ 8 ∷ []) ≡ count_after 0 (5 ∷ 8 ∷ [])
+pub told-held : count_answered (Ok 5) (9 ∷ 8 ∷ []) ≡ count_after 0 (5 ∷ 8 ∷ [])
 unfolding count_answered
 told-held = refl
 
-pub told-unknown : count_answered (Unknown Damaged) (9 ∷ 8 ∷ []) ≡ count_after 2 (0 ∷ 8 ∷ [])
+pub told-unknown : count_answered (Err Damaged) (9 ∷ 8 ∷ []) ≡ count_after 2 (0 ∷ 8 ∷ [])
 unfolding count_answered
 told-unknown = refl
 
@@ -82,10 +82,10 @@ pub mark-put-off : mark_out false (9 ∷ 8 ∷ []) ≡ 0 ∷ 8 ∷ []
 mark-put-off = refl
 
 -- ---- what is heard
-pub heard-pop : heard Pop (count_after 0 (5 ∷ 50 ∷ 500 ∷ 6 ∷ [])) ≡ Out (record { rank = record { 0 = 5 }; tag = record { 0 = 50 }; length = record { 0 = 500 } })
+pub heard-pop : heard Pop (count_after 0 (5 ∷ 50 ∷ 500 ∷ 6 ∷ [])) ≡ Ok (Some (record { rank = record { 0 = 5 }; tag = record { 0 = 50 }; length = record { 0 = 500 } }))
 unfolding heard
 heard-pop = refl
 
-pub heard-six : heard Pop (count_after 6 (0 ∷ 0 ∷ 0 ∷ 6 ∷ [])) ≡ Refused Empty
+pub heard-six : heard Pop (count_after 6 (0 ∷ 0 ∷ 0 ∷ 6 ∷ [])) ≡ Err Empty
 unfolding heard
 heard-six = refl

@@ -1,6 +1,6 @@
 -- What a caller in C hears: the number returned and the words of `out`, and the answer that these stand for. What is promised of a list of calls through C is said of what is heard.
 use Rattle.std.specs.Prelude.{◌∷◌}
-use Rattle.laws.specs.Prelude.{Answer, Bool, Done, Element, Idle, List, Out, Pop, Push, Refused, Replace, Request, [], cond, element_in, eqb, map, ℕ}
+use Rattle.laws.specs.Prelude.{Answer, Bool, Element, Idle, List, Pop, Push, Replace, Request, [], cond, element_in, eqb, map, ℕ, Ok, None, Some, Err}
 use Rattle.card_words.specs.Out.{CountAfter}
 use Rattle.promise.specs.Prelude.{Holds, Least, Step, answers, leaves, refusal_of}
 
@@ -10,13 +10,13 @@ heard_element out = element_in out 0
 
 -- the answer of a call that is not refused, by what it asks for
 abbrev pub heard_taken : Request → List ℕ → Answer
-heard_taken Idle out = Done
-heard_taken (Push x) out = Done
-heard_taken Pop out = Out (heard_element out)
-heard_taken (Replace x) out = Out (heard_element out)
+heard_taken Idle out = Ok None
+heard_taken (Push x) out = Ok None
+heard_taken Pop out = Ok (Some (heard_element out))
+heard_taken (Replace x) out = Ok (Some (heard_element out))
 
 unfoldable pub heard : Request → CountAfter → Answer
-heard r c = cond (eqb c.number 0) (heard_taken r c.out) (Refused (refusal_of c.number))
+heard r c = cond (eqb c.number 0) (heard_taken r c.out) (Err (refusal_of c.number))
 
 -- ---- the calls of a queue that does one operation at a time, as C has them: there is no idle one
 pub data Ask : Type 0 where

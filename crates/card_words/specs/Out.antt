@@ -1,6 +1,6 @@
 -- What `out` receives.
 use Rattle.std.specs.Prelude.{◌≤◌}
-use Rattle.laws.specs.Prelude.{Answer, BadShape, Bool, Count, List, cond, count_number, count_of, element_of, element_words, leb, length, refusal_number, set, suc, write_element, zero, ℕ}
+use Rattle.laws.specs.Prelude.{Answer, BadShape, Bool, List, cond, count_number, count_of, element_of, element_words, leb, length, refusal_number, set, suc, write_element, zero, ℕ, Result, Refusal}
 
 -- how many words an answer writes: rank, tag and length; how many a drain's: the cycles run, and whether work is left
 abbrev pub answer_words : ℕ
@@ -44,5 +44,5 @@ abbrev pub count_after : ℕ → List ℕ → CountAfter
 count_after n out = record { number = n; out = out }
 
 -- a count in the first word; an `out` with none is refused
-unfoldable pub count_answered : Count → List ℕ → CountAfter
+unfoldable pub count_answered : Result ℕ Refusal → List ℕ → CountAfter
 count_answered c out = cond (leb 1 (length out)) (count_after (count_number c) (set out 0 (count_of c))) (count_after bad_shape out)

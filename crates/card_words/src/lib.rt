@@ -9,8 +9,8 @@ ghost use Rattle.card_words.specs.Asked.{asked, marked, request_of};
 pub mod sizes;
 
 use strip::{
-    Answer, Count, ELEMENT_WORDS, Refusal, Request, count_number, count_of, element_of, given,
-    number, write_element,
+    Answer, ELEMENT_WORDS, Refusal, Request, count_number, count_of, element_of, given, number,
+    write_element,
 };
 
 // ---- what `out` receives
@@ -23,8 +23,7 @@ pub fn tell(out: &mut [u32], answer: Answer) -> u32
     requires { Long answer_words out.old }
     ensures { (result ≡ number_of answer) × (out.new ≡ answer_out answer out.old) }
 {
-    let e = given(answer);
-    write_element(out, 0, e);
+    write_element(out, 0, given(answer));
     number(answer)
 }
 
@@ -35,11 +34,11 @@ pub fn refuse(out: &mut [u32])
     if out.len() < OUT {
         return;
     }
-    tell(out, Answer::Refused(Refusal::BadShape));
+    tell(out, Err(Refusal::BadShape));
 }
 
 // Writes a count, 0 on a refusal, and returns its number.
-pub fn tell_count(out: &mut [u32], count: Count) -> u32
+pub fn tell_count(out: &mut [u32], count: Result<u32, Refusal>) -> u32
     requires { Long 1 out.old }
     ensures { (result ≡ count_number count) × (out.new ≡ set out.old 0 (count_of count)) }
 {
@@ -56,16 +55,10 @@ pub fn tell_drain(out: &mut [u32], cycles: u32, left: bool)
     ensures { out.new ≡ drain_out cycles left out.old }
 {
     out[0] = cycles;
-    out[1] = bit(left);
+    out[1] = u32::from(left);
 }
 
 // ---- the numbers handed in
-
-pub fn bit(on: bool) -> u32
-    ensures { result ≡ cond on 1 0 }
-{
-    if on { 1 } else { 0 }
-}
 
 pub fn request_of(request: u32, rank: u32, tag: u32, length: u32) -> Request
     ensures { result ≡ request_of request rank tag length }
@@ -96,6 +89,5 @@ pub fn is_marked(mark: &[u32]) -> bool
 pub fn is_asked(mark: &[u32], request: u32) -> bool
     ensures { result ≡ asked mark.now request }
 {
-    let there = is_marked(mark);
-    (request <= 3) & there
+    (request <= 3) & is_marked(mark)
 }

@@ -1,6 +1,6 @@
 -- 01's worked cases that are marked (P), those that 02 adds, case 9 and the worked traces, as one table.
 use Rattle.std.specs.Prelude.{◌++◌, ◌∷◌, ◌≡◌}
-use Rattle.laws.specs.Prelude.{Answer, Count, List, Pop, Push, Replace, Request, [], count_number, count_of, element, get_or, length, length_of, map, number_of, rank_of, replicate, tag_of, ℕ}
+use Rattle.laws.specs.Prelude.{Answer, List, Pop, Push, Replace, Request, [], count_number, count_of, element, get_or, length, length_of, map, number_of, rank_of, replicate, tag_of, ℕ, Result, Refusal}
 use Rattle.bucket_cases.specs.Case8.{case8, case8_three}
 use Rattle.bucket_cases.specs.CaseTag.{spoilt, spoilt_case, tag_case}
 use Rattle.bucket_model.specs.Prelude.{Store, answers_from, bucket_answers, filled, queue}
@@ -22,7 +22,7 @@ use Rattle.tree_model.specs.declared.Work.{Work}
 abbrev pub told : Answer → ℕ × ℕ × ℕ × ℕ
 told a = (number_of a, rank_of a, tag_of a, length_of a)
 
-abbrev pub told_held : Count → ℕ × ℕ
+abbrev pub told_held : Result ℕ Refusal → ℕ × ℕ
 told_held c = (count_number c, count_of c)
 
 -- a row: what is asked of a cleared queue, what it says, the words it leaves, and what held says then. A slice to begin with is garbage, and longer

@@ -4,7 +4,7 @@
 
 use std::io;
 use std::io::{BufWriter, Write};
-use strip::{Answer, Element, Length, Rank, Request, Tag};
+use strip::{Answer, Element, Request};
 use tree_clock_model::State;
 
 // Writes a number and a space.
@@ -30,7 +30,7 @@ fn say_words(output: &mut impl Write, words: &[u32]) -> io::Result<()> {
 
 // ---- a call as it is read, byte by byte
 
-#[derive(Clone, Copy)]
+#[derive(Clone, Copy, Default)]
 struct Call {
     sign: u8,
     rank: u32,
@@ -39,37 +39,26 @@ struct Call {
 }
 
 fn element(c: Call) -> Element {
-    Element {
-        rank: Rank(c.rank),
-        tag: Tag(c.tag),
-        length: Length(c.length),
-    }
+    strip::element_of(c.rank, c.tag, c.length)
 }
 
-// A digit goes into the last number (its low four bits are its value), a slash moves the numbers up, any other byte is a sign.
+// A digit goes into the last number, a slash moves the numbers up, any other byte is a sign.
 fn read(c: Call, b: u8) -> Call {
-    if b == b'/' {
-        return Call {
-            sign: c.sign,
+    match b {
+        b'/' => Call {
             rank: c.tag,
             tag: c.length,
             length: 0,
-        };
-    }
-    if (b'0' <= b) & (b <= b'9') {
-        let n = 10 * (c.length as u64) + ((b % 16) as u64);
-        return Call {
-            sign: c.sign,
-            rank: c.rank,
-            tag: c.tag,
-            length: (n % 4294967296) as u32,
-        };
-    }
-    Call {
-        sign: b,
-        rank: 0,
-        tag: 0,
-        length: 0,
+            ..c
+        },
+        b'0'..=b'9' => Call {
+            length: c.length.wrapping_mul(10).wrapping_add(u32::from(b - b'0')),
+            ..c
+        },
+        _ => Call {
+            sign: b,
+            ..Call::default()
+        },
     }
 }
 
@@ -79,45 +68,40 @@ fn read_aloud(output: &mut impl Write, c: Call, b: u8) -> io::Result<Call> {
     Ok(read(c, b))
 }
 
-fn no_call() -> Call {
-    Call {
-        sign: 0,
-        rank: 0,
-        tag: 0,
-        length: 0,
+// Reads the calls, makes each at the space behind it, and says what it answers.
+fn answers<F: FnMut(Call) -> Answer>(
+    output: &mut impl Write,
+    calls: &[u8],
+    mut answer: F,
+) -> io::Result<()>
+    requires { F.IsAlwaysCallable answer }
+{
+    let mut c = Call::default();
+    for b in calls {
+        let next = read_aloud(output, c, *b)?;
+        if *b == b' ' {
+            say_answer(output, answer(c))?;
+        }
+        c = next;
     }
+    Ok(())
 }
 
 // ---- the tree, order 2, levels 2
 
 fn tree_call(store: &mut [u32], c: Call) -> Answer {
-    if c.sign == b'+' {
-        return tree::push(store, 2, 2, element(c));
+    match c.sign {
+        b'+' => tree::push(store, 2, 2, element(c)),
+        b'*' => tree::replace(store, 2, 2, element(c)),
+        b'-' => tree::pop(store, 2, 2),
+        _ => tree::clear(store, 2, 2),
     }
-    if c.sign == b'*' {
-        return tree::replace(store, 2, 2, element(c));
-    }
-    if c.sign == b'-' {
-        return tree::pop(store, 2, 2);
-    }
-    tree::clear(store, 2, 2)
-}
-
-fn tree_byte(output: &mut impl Write, store: &mut [u32], c: Call, b: u8) -> io::Result<Call> {
-    let next = read_aloud(output, c, b)?;
-    if b == b' ' {
-        say_answer(output, tree_call(store, c))?;
-    }
-    Ok(next)
 }
 
 // Calls on a store of nines, the words that they leave, and how many are held then.
 fn trees(output: &mut impl Write, calls: &[u8]) -> io::Result<()> {
     let mut store = [9u32; 26];
-    let mut c = no_call();
-    for b in calls {
-        c = tree_byte(output, &mut store, c, *b)?;
-    }
+    answers(output, calls, |c| tree_call(&mut store, c))?;
     say_words(output, &store)?;
     let held = strip::count_of(tree::held(&store, 2, 2));
     writeln!(output, "held {held} ")
@@ -126,16 +110,12 @@ fn trees(output: &mut impl Write, calls: &[u8]) -> io::Result<()> {
 // ---- the same by cycles
 
 fn request(c: Call) -> Request {
-    if c.sign == b'+' {
-        return Request::Push(element(c));
+    match c.sign {
+        b'+' => Request::Push(element(c)),
+        b'*' => Request::Replace(element(c)),
+        b'-' => Request::Pop,
+        _ => Request::Idle,
     }
-    if c.sign == b'*' {
-        return Request::Replace(element(c));
-    }
-    if c.sign == b'-' {
-        return Request::Pop;
-    }
-    Request::Idle
 }
 
 fn drained(output: &mut impl Write, store: &mut [u32], state: State) -> io::Result<State> {
@@ -157,29 +137,16 @@ fn cycle(output: &mut impl Write, store: &mut [u32], state: State, c: Call) -> i
     Ok(done.state)
 }
 
-fn cycle_byte(
-    output: &mut impl Write,
-    store: &mut [u32],
-    state: State,
-    c: Call,
-    b: u8,
-) -> io::Result<State> {
-    if b == b' ' {
-        return cycle(output, store, state, c);
-    }
-    Ok(state)
-}
-
 // Calls on a cleared machine.
 fn cycles(output: &mut impl Write, calls: &[u8]) -> io::Result<()> {
     let mut store = [9u32; 26];
-    let none = tree_clock::fresh_state();
-    let cleared = tree_clock::clear(&mut store, 2, 2, none);
-    let mut state = cleared.state;
-    let mut c = no_call();
+    let mut state = tree_clock::clear(&mut store, 2, 2, tree_clock::fresh_state()).state;
+    let mut c = Call::default();
     for b in calls {
         let next = read_aloud(output, c, *b)?;
-        state = cycle_byte(output, &mut store, state, c, *b)?;
+        if *b == b' ' {
+            state = cycle(output, &mut store, state, c)?;
+        }
         c = next;
     }
     Ok(())
@@ -188,54 +155,23 @@ fn cycles(output: &mut impl Write, calls: &[u8]) -> io::Result<()> {
 // ---- the bucket queue
 
 fn bucket_call(bits: &mut [u64], words: &mut [u32], storeys: usize, nodes: u32, c: Call) -> Answer {
-    if c.sign == b'+' {
-        return bucket::push(bits, words, storeys, nodes, element(c));
+    match c.sign {
+        b'+' => bucket::push(bits, words, storeys, nodes, element(c)),
+        b'*' => bucket::replace(bits, words, storeys, nodes, element(c)),
+        b'-' => bucket::pop(bits, words, storeys, nodes),
+        _ => bucket::clear(bits, words, storeys, nodes),
     }
-    if c.sign == b'*' {
-        return bucket::replace(bits, words, storeys, nodes, element(c));
-    }
-    if c.sign == b'-' {
-        return bucket::pop(bits, words, storeys, nodes);
-    }
-    bucket::clear(bits, words, storeys, nodes)
-}
-
-fn bucket_byte(
-    output: &mut impl Write,
-    bits: &mut [u64],
-    words: &mut [u32],
-    storeys: usize,
-    nodes: u32,
-    c: Call,
-    b: u8,
-) -> io::Result<Call> {
-    let next = read_aloud(output, c, b)?;
-    if b == b' ' {
-        say_answer(output, bucket_call(bits, words, storeys, nodes, c))?;
-    }
-    Ok(next)
-}
-
-fn bucket_calls(
-    output: &mut impl Write,
-    bits: &mut [u64],
-    words: &mut [u32],
-    storeys: usize,
-    nodes: u32,
-    calls: &[u8],
-) -> io::Result<()> {
-    let mut c = no_call();
-    for b in calls {
-        c = bucket_byte(output, bits, words, storeys, nodes, c, *b)?;
-    }
-    Ok(())
 }
 
 // Calls on a store of nines, of two storeys.
 fn buckets(output: &mut impl Write, nodes: u32, calls: &[u8]) -> io::Result<()> {
     let mut bits = [9u64; 65];
     let mut words = [9u32; 8206];
-    bucket_calls(output, &mut bits, &mut words, 2, nodes, calls)
+    answers(
+        output,
+        calls,
+        |c| bucket_call(&mut bits, &mut words, 2, nodes, c),
+    )
 }
 
 // ---- the cases
@@ -327,7 +263,11 @@ fn deep_buckets(
 ) -> io::Result<()> {
     let mut bits = [9u64; 4161];
     let mut words = [9u32; 524299];
-    bucket_calls(output, &mut bits, &mut words, storeys, nodes, calls)
+    answers(
+        output,
+        calls,
+        |c| bucket_call(&mut bits, &mut words, storeys, nodes, c),
+    )
 }
 
 // Three storeys; and the limits of a shape: N, and the depth.
@@ -378,7 +318,7 @@ fn edges(output: &mut impl Write, store: &mut [u32]) -> io::Result<()> {
     three(output, store, 8, 4, 5, 6)?;
     shaped(output, store, 3, 2)?;
     shaped(output, store, 2, 0)?;
-    shaped(output, store, 2, 18446744073709551615)
+    shaped(output, store, 2, usize::MAX)
 }
 
 // The slice would hold order 4 with 9 levels, 349,524 slots, and so all the others: where a shape is refused, the slice is not the cause.

@@ -1,7 +1,7 @@
 -- The calls in the code's shape are the calls of the definitions.
-use Rattle.laws.specs.Prelude.{Bool, Damaged, Done, Element, List, Out, Pop, Push, Refused, Replace, ◌&&◌, ◌*◌, ◌+◌, ◌-◌, ◌<◌, ◌||◌, ◌≡◌, ◌≤◌, ap, arith, cond, eqb, eqb-false, eqb-true, false, le-ltb, leb, leb-true, length, lt-leb, lt-ltb, ltb, not, pred, refl, sub-one, suc, true, untagged, zero, ℕ}
+use Rattle.laws.specs.Prelude.{Bool, Damaged, Element, List, Pop, Push, Replace, ◌&&◌, ◌*◌, ◌+◌, ◌-◌, ◌<◌, ◌||◌, ◌≡◌, ◌≤◌, ap, arith, cond, eqb, eqb-false, eqb-true, false, le-ltb, leb, leb-true, length, lt-leb, lt-ltb, ltb, not, pred, refl, sub-one, suc, true, untagged, zero, ℕ, Ok, None, Some, Err}
 use Rattle.promise.specs.Prelude.{always}
-use Rattle.cluster_model.specs.Prelude.{Node, called, extent, held_count, inside, low, low_elem, neat_to, node_in, node_of, node_ok, nothing_below, outcome, put, room, root_held, rule, run_words, shape_ok, strict, swap, take, way_ok, width, word}
+use Rattle.cluster_model.specs.Prelude.{Node, called, extent, held_count, inside, low_elem, neat_to, node_in, node_of, node_ok, nothing_below, outcome, put, room, root_held, rule, run_words, shape_ok, strict, swap, take, way_ok, width, word}
 use Rattle.cluster_model.proofs.Laws.{node-count, root-limit}
 use Rattle.cluster_node.specs.Leaf.{look_node}
 use Rattle.cluster_node.proofs.Bridge.{test-is, look-count}
@@ -47,8 +47,8 @@ pop-is K k ws = go (shape_ok K (suc k) (length ws)) refl (node_ok K (room K k) w
         let h = some-at-root K (room K k) ws (omega (arith, (shape_is K (suc k) (length ws) p).low)) q (eqb-false (root_held (node_in K ws 0)) 0 s) in
         rw (less_one k, test-is K (room K k) ws 0, held-root-is K ws, p, q, s, low-place K ws 0 h, low-elem K ws 0 h, take-main K k 0 ws q h) (last (way_ok K (suc k) take 0 ws))
       where
-        last : (b : Bool) → cond b (outcome (Out (low_elem (node_in K ws 0).places)) (cond b (run_words K (suc k) take 0 ws) ws)) (outcome (Refused Damaged) (cond b (run_words K (suc k) take 0 ws) ws))
-            ≡ cond b (outcome (Out (low_elem (node_in K ws 0).places)) (run_words K (suc k) take 0 ws)) (outcome (Refused Damaged) ws)
+        last : (b : Bool) → cond b (outcome (Ok (Some (low_elem (node_in K ws 0).places))) (cond b (run_words K (suc k) take 0 ws) ws)) (outcome (Err Damaged) (cond b (run_words K (suc k) take 0 ws) ws))
+            ≡ cond b (outcome (Ok (Some (low_elem (node_in K ws 0).places))) (run_words K (suc k) take 0 ws)) (outcome (Err Damaged) ws)
         last true = refl
         last false = refl
 
@@ -64,8 +64,8 @@ replace-is K k x ws tag = go (shape_ok K (suc k) (length ws)) refl (node_ok K (r
         let h = some-at-root K (room K k) ws (omega (arith, (shape_is K (suc k) (length ws) p).low)) q (eqb-false (root_held (node_in K ws 0)) 0 s) in
         rw (less_one k, test-is K (room K k) ws 0, held-root-is K ws, p, q, tag, s, low-place K ws 0 h, low-elem K ws 0 h, swap-main K k 0 x ws q h) (last (way_ok K (suc k) (swap x) 0 ws))
       where
-        last : (b : Bool) → cond b (outcome (Out (low_elem (node_in K ws 0).places)) (cond b (run_words K (suc k) (swap x) 0 ws) ws)) (outcome (Refused Damaged) (cond b (run_words K (suc k) (swap x) 0 ws) ws))
-            ≡ cond b (outcome (Out (low_elem (node_in K ws 0).places)) (run_words K (suc k) (swap x) 0 ws)) (outcome (Refused Damaged) ws)
+        last : (b : Bool) → cond b (outcome (Ok (Some (low_elem (node_in K ws 0).places))) (cond b (run_words K (suc k) (swap x) 0 ws) ws)) (outcome (Err Damaged) (cond b (run_words K (suc k) (swap x) 0 ws) ws))
+            ≡ cond b (outcome (Ok (Some (low_elem (node_in K ws 0).places))) (run_words K (suc k) (swap x) 0 ws)) (outcome (Err Damaged) ws)
         last true = refl
         last false = refl
 
@@ -100,8 +100,8 @@ push-is K k x ws tag = go (shape_ok K (suc k) (length ws)) refl (node_ok K (room
           put-main K k 0 x ws (omega (arith, (shape_is K (suc k) (length ws) p).low)) q,
         ) (last (way_ok K (suc k) (put x) 0 ws))
       where
-        last : (b : Bool) → cond b (outcome Done (cond b (run_words K (suc k) (put x) 0 ws) ws)) (outcome (Refused Damaged) (cond b (run_words K (suc k) (put x) 0 ws) ws))
-            ≡ cond b (outcome Done (run_words K (suc k) (put x) 0 ws)) (outcome (Refused Damaged) ws)
+        last : (b : Bool) → cond b (outcome (Ok None) (cond b (run_words K (suc k) (put x) 0 ws) ws)) (outcome (Err Damaged) (cond b (run_words K (suc k) (put x) 0 ws) ws))
+            ≡ cond b (outcome (Ok None) (run_words K (suc k) (put x) 0 ws)) (outcome (Err Damaged) ws)
         last true = refl
         last false = refl
 

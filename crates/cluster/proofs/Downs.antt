@@ -1,4 +1,5 @@
 -- For the code of the recursions.
+use Rattle.std.proofs.Common.{IfSome, None, Option, Some}
 use Rattle.laws.specs.Prelude.{Bool, Element, List, ◌&&◌, ◌*◌, ◌+◌, ◌-◌, ◌<◌, ◌||◌, ◌∙◌, ◌≡◌, ◌≤◌, ap, ap₂, arith, cond, false, false≢true, key, le-leb, le-ltb, leb, leb-true, length, lt-leb, lt-ltb, ltb, ltb-false, ltb-true, not, not-false, not-true, refl, subst, suc, sym, true, zero, ℕ}
 use Rattle.cluster_node.specs.declared.Seen.{Seen}
 use Rattle.cluster_node.specs.declared.Lead.{Lead}
@@ -67,21 +68,23 @@ scanned K ws o p q u k ep eq =
     let b : o + o + 38 ≡ o + o + width 4 + width 4 + 2 = omega arith in
     record { words = omega (arith, u.words, k); left = ep ∙ ap (λ (i : ℕ). low_lead ws i 4) a; right = eq ∙ ap (λ (i : ℕ). low_lead ws i 4) b }
 
-module _ (K below : ℕ) (ws : List ℕ) (o : ℕ) (c r : Chosen) where
-  pub choice-any : ChoiceFrom K below ws o r → c ≡ r → ChoiceFrom K below ws o c
-  choice-any h e = subst (λ (u : Chosen). ChoiceFrom K below ws o u) (sym e) h
+module _ (K below : ℕ) (ws : List ℕ) (o : ℕ) where
+  -- a choice that may have been made
+  abbrev pub Made : Option Chosen → Type 0
+  Made d = IfSome d (ChoiceFrom K below ws o)
 
-  ok-as : c ≡ r → c.ok ≡ true → r.ok ≡ true
-  ok-as e t = sym (ap (λ (u : Chosen). u.ok) e) ∙ t
+  pub choice-four : (d : Option Chosen) → K ≡ 4 → IfSome d (λ c. (c.ok ≡ true) × ChoiceFrom 4 below ws o c) → Made d
+  choice-four None k h = h
+  choice-four (Some c) k h = subst (λ (K : ℕ). ChoiceFrom K below ws o c) (sym k) h.1
 
-  pub choice-four : K ≡ 4 → (r.ok ≡ true → ChoiceFrom 4 below ws o r) → c ≡ r → c.ok ≡ true → ChoiceFrom K below ws o c
-  choice-four k h e t = choice-any (subst (λ (K : ℕ). ChoiceFrom K below ws o r) (sym k) (h (ok-as e t))) e
+  pub choice-none : (d : Option Chosen) → d ≡ None → Made d
+  choice-none d e = subst Made (sym e) tt
 
-  pub choice-none : r.ok ≡ false → c ≡ r → c.ok ≡ true → ChoiceFrom K below ws o c
-  choice-none f e t = absurd (false≢true (sym f ∙ ok-as e t))
+  pub choice-first : (d : Option Chosen) (c : Chosen) → Made d → d ≡ Some c → ChoiceFrom K below ws o c
+  choice-first d c h e = subst Made e h
 
-  pub choice-first : (r.ok ≡ true → ChoiceFrom K below ws o r) → not r.ok ≡ false → c ≡ r → ChoiceFrom K below ws o c
-  choice-first h t e = choice-any (h (not-false r.ok t)) e
+  pub choice-any : (c r : Chosen) → ChoiceFrom K below ws o r → c ≡ r → ChoiceFrom K below ws o c
+  choice-any c r h e = subst (ChoiceFrom K below ws o) (sym e) h
 
 -- ---- take
 module _ (K left m limit j : ℕ) (ws : List ℕ) (o : ℕ) (at : o ≡ m * width K) where

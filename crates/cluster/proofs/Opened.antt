@@ -1,5 +1,5 @@
 -- What a call's tests have found makes its outcome.
-use Rattle.laws.specs.Prelude.{BadShape, Bool, Damaged, Done, Element, Empty, Held, List, Out, Refused, Unknown, ◌&&◌, ◌*◌, ◌++◌, ◌+◌, ◌-◌, ◌<◌, ◌||◌, ◌∙◌, ◌≡◌, ◌≤◌, ap, ap₂, arith, drop, eq-eqb, false, false≢true, leb, leb-true, length, ne_eqb, not, not-false, not-true, refl, replicate, subst, suc, sym, true, zero, ℕ}
+use Rattle.laws.specs.Prelude.{BadShape, Bool, Damaged, Element, Empty, List, ◌&&◌, ◌*◌, ◌++◌, ◌+◌, ◌-◌, ◌<◌, ◌||◌, ◌∙◌, ◌≡◌, ◌≤◌, ap, ap₂, arith, drop, eq-eqb, false, false≢true, leb, leb-true, length, ne_eqb, not, not-false, not-true, refl, replicate, subst, suc, sym, true, zero, ℕ, Ok, Err, None, Some}
 use Rattle.cluster_node.specs.declared.Seen.{Seen}
 use Rattle.cluster_model.specs.Prelude.{Outcome, cleared, extent, outcome, room, shape_ok, width, wipe, word}
 use Rattle.cluster.specs.Coded.{held_by, opened_to, held_down, pop_down, replace_down}
@@ -29,11 +29,11 @@ ok-counts K limit ws o v e = go v.neat (leb (word ws o) limit) refl (leb (word w
     go true false p d q e = absurd (false≢true e)
     go false b p d q e = absurd (false≢true e)
 
-pub bad-shape : (K levels : ℕ) (ws : List ℕ) (o : Outcome) (t : Bool) → t ≡ shape_ok K levels (length ws) → not t ≡ true → outcome (Refused BadShape) ws ≡ opened_to K levels ws o
+pub bad-shape : (K levels : ℕ) (ws : List ℕ) (o : Outcome) (t : Bool) → t ≡ shape_ok K levels (length ws) → not t ≡ true → outcome (Err BadShape) ws ≡ opened_to K levels ws o
 unfolding opened_to
 bad-shape K levels ws o t e p = rw (← e, not-true t p) refl
 
-pub held-shape : (K levels : ℕ) (ws : List ℕ) (t : Bool) → t ≡ shape_ok K levels (length ws) → not t ≡ true → Unknown BadShape ≡ held_down K levels ws
+pub held-shape : (K levels : ℕ) (ws : List ℕ) (t : Bool) → t ≡ shape_ok K levels (length ws) → not t ≡ true → Err BadShape ≡ held_down K levels ws
 unfolding held_down
 held-shape K levels ws t e p = rw (← e, not-true t p) refl
 
@@ -64,11 +64,11 @@ module _ (K levels : ℕ) (ws : List ℕ) (t : Bool) (shaped : t ≡ shape_ok K 
     unfolding ok_by
     tested-as = tested ∙ ap₂ (λ (l : ℕ) (v : Seen). ok_by K l ws (0 * width K) v) most seen
 
-    pub bad-root : (o : Outcome) → not u ≡ true → outcome (Refused Damaged) ws ≡ opened_to K levels ws o
+    pub bad-root : (o : Outcome) → not u ≡ true → outcome (Err Damaged) ws ≡ opened_to K levels ws o
     unfolding opened_to
     bad-root o p = rw (shape-true K levels ws t shaped yes, ← tested-as, not-true u p) refl
 
-    pub held-root : not u ≡ true → Unknown Damaged ≡ held_down K levels ws
+    pub held-root : not u ≡ true → Err Damaged ≡ held_down K levels ws
     unfolding held_down
     held-root p = rw (shape-true K levels ws t shaped yes, ← tested-as, not-true u p) refl
 
@@ -81,7 +81,7 @@ module _ (K levels : ℕ) (ws : List ℕ) (t : Bool) (shaped : t ≡ shape_ok K 
       unfolding held_by
       held_small h e = let c = ok-counts K limit ws (0 * width K) v (sym tested ∙ not-false u fine) in omega (arith, e, c.0, c.1, limit-small limit most, look-count v seen)
 
-      pub held-done : (h : ℕ) → h ≡ held_by K ws v → Held h ≡ held_down K levels ws
+      pub held-done : (h : ℕ) → h ≡ held_by K ws v → Ok h ≡ held_down K levels ws
       unfolding held_down held_by
       held-done h e =
           let w : h ≡ held_by K ws (look_node K ws 0) = e ∙ ap (held_by K ws) seen in
@@ -95,13 +95,13 @@ module _ (K levels : ℕ) (ws : List ℕ) (t : Bool) (shaped : t ≡ shape_ok K 
         unfolding held_by
         counted-as = counted ∙ ap (held_by K ws) seen
 
-        pub pop-empty : h ≡ 0 → outcome (Refused Empty) ws ≡ pop_down K levels ws
+        pub pop-empty : h ≡ 0 → outcome (Err Empty) ws ≡ pop_down K levels ws
         unfolding pop_down
-        pop-empty e = rw (← counted-as, eq-eqb h 0 e) (good (outcome (Refused Empty) ws))
+        pop-empty e = rw (← counted-as, eq-eqb h 0 e) (good (outcome (Err Empty) ws))
 
-        pub replace-empty : (x : Element) → h ≡ 0 → outcome (Refused Empty) ws ≡ replace_down K levels x ws
+        pub replace-empty : (x : Element) → h ≡ 0 → outcome (Err Empty) ws ≡ replace_down K levels x ws
         unfolding replace_down
-        replace-empty x e = rw (← counted-as, eq-eqb h 0 e) (good (outcome (Refused Empty) ws))
+        replace-empty x e = rw (← counted-as, eq-eqb h 0 e) (good (outcome (Err Empty) ws))
 
         module _ (some : h ≡ 0 → ⊥) (e : Element) (lowest : e ≡ elem_at ws (place_in K 0 v.low)) where
           lowest-as : e ≡ elem_at ws (place_in K 0 (look_node K ws 0).low)
@@ -111,28 +111,28 @@ module _ (K levels : ℕ) (ws : List ℕ) (t : Bool) (shaped : t ≡ shape_ok K 
             take-as : went g q ≡ take_down K (levels - 1) 0 (room K (levels - 1)) (look_node K ws 0).low ws
             take-as = done 0 root-begins ∙ ap₂ (λ (l : ℕ) (v : Seen). take_down K (levels - 1) 0 l v.low ws) most seen
 
-            pub pop-stop : not g ≡ true → outcome (Refused Damaged) q ≡ pop_down K levels ws
+            pub pop-stop : not g ≡ true → outcome (Err Damaged) q ≡ pop_down K levels ws
             unfolding pop_down
-            pop-stop p = rw (← counted-as, ne_eqb h 0 some, ← take-as, not-true g p) (good (outcome (Refused Damaged) q))
+            pop-stop p = rw (← counted-as, ne_eqb h 0 some, ← take-as, not-true g p) (good (outcome (Err Damaged) q))
 
-            pub pop-done : not g ≡ false → outcome (Out e) q ≡ pop_down K levels ws
+            pub pop-done : not g ≡ false → outcome (Ok (Some e)) q ≡ pop_down K levels ws
             unfolding pop_down
-            pop-done p = rw (← counted-as, ne_eqb h 0 some, ← take-as, not-false g p, ← lowest-as) (good (outcome (Out e) q))
+            pop-done p = rw (← counted-as, ne_eqb h 0 some, ← take-as, not-false g p, ← lowest-as) (good (outcome (Ok (Some e)) q))
 
           module _ (x : Element) (g : Bool) (q : List ℕ) (done : SwapMeets K (levels - 1) 0 limit v.low x ws g q) where
             swap-as : went g q ≡ swap_down K (levels - 1) 0 (room K (levels - 1)) (look_node K ws 0).low x ws
             swap-as = done 0 root-begins ∙ ap₂ (λ (l : ℕ) (v : Seen). swap_down K (levels - 1) 0 l v.low x ws) most seen
 
-            pub replace-stop : not g ≡ true → outcome (Refused Damaged) q ≡ replace_down K levels x ws
+            pub replace-stop : not g ≡ true → outcome (Err Damaged) q ≡ replace_down K levels x ws
             unfolding replace_down
-            replace-stop p = rw (← counted-as, ne_eqb h 0 some, ← swap-as, not-true g p) (good (outcome (Refused Damaged) q))
+            replace-stop p = rw (← counted-as, ne_eqb h 0 some, ← swap-as, not-true g p) (good (outcome (Err Damaged) q))
 
-            pub replace-done : not g ≡ false → outcome (Out e) q ≡ replace_down K levels x ws
+            pub replace-done : not g ≡ false → outcome (Ok (Some e)) q ≡ replace_down K levels x ws
             unfolding replace_down
-            replace-done p = rw (← counted-as, ne_eqb h 0 some, ← swap-as, not-false g p, ← lowest-as) (good (outcome (Out e) q))
+            replace-done p = rw (← counted-as, ne_eqb h 0 some, ← swap-as, not-false g p, ← lowest-as) (good (outcome (Ok (Some e)) q))
 
 -- ---- clear
-pub clear-shape : (K levels : ℕ) (ws : List ℕ) (t : Bool) → t ≡ shape_ok K levels (length ws) → not t ≡ true → outcome (Refused BadShape) ws ≡ cleared K levels ws
+pub clear-shape : (K levels : ℕ) (ws : List ℕ) (t : Bool) → t ≡ shape_ok K levels (length ws) → not t ≡ true → outcome (Err BadShape) ws ≡ cleared K levels ws
 unfolding cleared
 clear-shape K levels ws t e p = rw (← e, not-true t p) refl
 
@@ -143,6 +143,6 @@ module _ (K levels : ℕ) (ws : List ℕ) (t : Bool) (shaped : t ≡ shape_ok K 
   pub clear-fits : n * width K ≤ length ws
   clear-fits = omega (arith, clear-words, (shape-here K levels ws t shaped yes).slice)
 
-  pub clear-done : (q : List ℕ) → q ≡ replicate (n * width K) 0 ++ drop (n * width K) ws → outcome Done q ≡ cleared K levels ws
+  pub clear-done : (q : List ℕ) → q ≡ replicate (n * width K) 0 ++ drop (n * width K) ws → outcome (Ok None) q ≡ cleared K levels ws
   unfolding cleared wipe
-  clear-done q e = rw (shape-true K levels ws t shaped yes) (ap (outcome Done) (e ∙ ap (λ (i : ℕ). replicate i 0 ++ drop i ws) clear-words))
+  clear-done q e = rw (shape-true K levels ws t shaped yes) (ap (outcome (Ok None)) (e ∙ ap (λ (i : ℕ). replicate i 0 ++ drop i ws) clear-words))

@@ -1,5 +1,5 @@
 -- A push tries the put before it looks at the root: where the put is refused nothing is written, and a root that holds all there is room for refuses it.
-use Rattle.laws.specs.Prelude.{Bool, Count, Damaged, Done, Element, Full, Held, List, Refusal, Refused, Unknown, ◌&&◌, ◌*◌, ◌+◌, ◌-◌, ◌<◌, ◌∙◌, ◌≡◌, ◌≤◌, ap, arith, cond, eq-eqb, eqb, eqb-true, false, false≢true, le-leb, le-ltb, leb, length, ltb, ne_eqb, not, not-suc-le-zero, refl, subst, suc, sym, true, zero, ℕ}
+use Rattle.laws.specs.Prelude.{Bool, Damaged, Element, Full, List, Refusal, ◌&&◌, ◌*◌, ◌+◌, ◌-◌, ◌<◌, ◌∙◌, ◌≡◌, ◌≤◌, ap, arith, cond, eq-eqb, eqb, eqb-true, false, false≢true, le-leb, le-ltb, leb, length, ltb, ne_eqb, not, not-suc-le-zero, refl, subst, suc, sym, true, zero, ℕ, Result, Ok, Err, None}
 use Rattle.cluster_node.specs.declared.Seen.{Seen}
 use Rattle.cluster_model.specs.Prelude.{Outcome, held_count, outcome, place_words, room, shape_ok, width, word}
 use Rattle.cluster_node.specs.Seeing.{is_flagged, see_one, look_to}
@@ -86,7 +86,7 @@ module _ (K levels : ℕ) (ws : List ℕ) (t : Bool) (shaped : t ≡ shape_ok K 
   G = put_down K (levels - 1) 0 (room K (levels - 1)) (look_node K ws 0) x ws
 
   abbrev comes : Bool → Bool → Outcome
-  comes a b = cond a (cond b (outcome (Refused Full) ws) (went_to Done G)) (outcome (Refused Damaged) ws)
+  comes a b = cond a (cond b (outcome (Err Full) ws) (went_to (Ok None) G)) (outcome (Err Damaged) ws)
 
   put_as : went g q ≡ cond fine G (went false ws)
   unfolding put_in
@@ -99,13 +99,13 @@ module _ (K levels : ℕ) (ws : List ℕ) (t : Bool) (shaped : t ≡ shape_ok K 
   full : fine ≡ true → eqb held (room K levels) ≡ true → G ≡ went false ws
   full f e = over K x ws levels (omega (arith, (shape-here K levels ws t shaped yes).some)) f (eqb-true held (room K levels) e)
 
-  pub push-done : g ≡ true → outcome Done q ≡ push_down K levels x ws
+  pub push-done : g ≡ true → outcome (Ok None) q ≡ push_down K levels x ws
   push-done p = go fine refl (eqb held (room K levels)) refl put_as ∙ pushed
     where
-      never : went g q ≡ went false ws → outcome Done q ≡ outcome Done q → ⊥
+      never : went g q ≡ went false ws → outcome (Ok None) q ≡ outcome (Ok None) q → ⊥
       never e _ = false≢true (sym (ap (λ (u : Went). u.ok) e) ∙ p)
 
-      go : (a : Bool) → fine ≡ a → (b : Bool) → eqb held (room K levels) ≡ b → went g q ≡ cond a G (went false ws) → outcome Done q ≡ comes a b
+      go : (a : Bool) → fine ≡ a → (b : Bool) → eqb held (room K levels) ≡ b → went g q ≡ cond a G (went false ws) → outcome (Ok None) q ≡ comes a b
       go false f b h e = absurd (never e refl)
       go true f true h e = absurd (never (e ∙ full f h) refl)
       go true f false h e = rw (← e, p) refl
@@ -118,28 +118,28 @@ module _ (K levels : ℕ) (ws : List ℕ) (t : Bool) (shaped : t ≡ shape_ok K 
         go false e = ap (λ (u : Went). u.words) e
         go true e = ap (λ (u : Went). u.words) e ∙ put-kept K ws (levels - 1) 0 (room K (levels - 1)) (look_node K ws 0) x (sym (ap (λ (u : Went). u.ok) e) ∙ p)
 
-    held-as : (c : Count) → c ≡ held_count K levels q → c ≡ cond fine (Held held) (Unknown Damaged)
+    held-as : (c : Result ℕ Refusal) → c ≡ held_count K levels q → c ≡ cond fine (Ok held) (Err Damaged)
     unfolding held_down
     held-as c e = e ∙ ap (held_count K levels) same-words ∙ sym (held-eq K levels ws) ∙ rw (shape-true K levels ws t shaped yes) refl
 
-    pub push-root : (why : Refusal) → Unknown why ≡ held_count K levels q → outcome (Refused why) q ≡ push_down K levels x ws
-    push-root why e = ap (outcome (Refused why)) same-words ∙ go fine (held-as (Unknown why) e) ∙ pushed
+    pub push-root : (why : Refusal) → Err why ≡ held_count K levels q → outcome (Err why) q ≡ push_down K levels x ws
+    push-root why e = ap (outcome (Err why)) same-words ∙ go fine (held-as (Err why) e) ∙ pushed
       where
-        go : (a : Bool) → Unknown why ≡ cond a (Held held) (Unknown Damaged) → outcome (Refused why) ws ≡ comes a (eqb held (room K levels))
-        go false z = let w : why ≡ Damaged = cc in ap (λ (w : Refusal). outcome (Refused w) ws) w
+        go : (a : Bool) → Err why ≡ cond a (Ok held) (Err Damaged) → outcome (Err why) ws ≡ comes a (eqb held (room K levels))
+        go false z = let w : why ≡ Damaged = cc in ap (λ (w : Refusal). outcome (Err w) ws) w
         go true z = let n : ◌≡◌ {A = ℕ} 0 1 = cc in absurd (omega arith)
 
-    module _ (n : ℕ) (all : Held n ≡ held_count K levels q) (cap : ℕ) (capped : cap ≡ room K levels) where
-      pub push-over : n ≡ cap → outcome (Refused Full) q ≡ push_down K levels x ws
-      push-over e = ap (outcome (Refused Full)) same-words ∙ go fine (held-as (Held n) all) ∙ pushed
+    module _ (n : ℕ) (all : Ok n ≡ held_count K levels q) (cap : ℕ) (capped : cap ≡ room K levels) where
+      pub push-over : n ≡ cap → outcome (Err Full) q ≡ push_down K levels x ws
+      push-over e = ap (outcome (Err Full)) same-words ∙ go fine (held-as (Ok n) all) ∙ pushed
         where
-          go : (a : Bool) → Held n ≡ cond a (Held held) (Unknown Damaged) → outcome (Refused Full) ws ≡ comes a (eqb held (room K levels))
+          go : (a : Bool) → Ok n ≡ cond a (Ok held) (Err Damaged) → outcome (Err Full) ws ≡ comes a (eqb held (room K levels))
           go false z = let n : ◌≡◌ {A = ℕ} 0 1 = cc in absurd (omega arith)
           go true z = let w : n ≡ held = cc in rw (eq-eqb held (room K levels) (sym w ∙ e ∙ capped)) refl
 
-      pub push-below : (n ≡ cap → ⊥) → outcome (Refused Damaged) q ≡ push_down K levels x ws
-      push-below ne = go fine (held-as (Held n) all) put_as ∙ pushed
+      pub push-below : (n ≡ cap → ⊥) → outcome (Err Damaged) q ≡ push_down K levels x ws
+      push-below ne = go fine (held-as (Ok n) all) put_as ∙ pushed
         where
-          go : (a : Bool) → Held n ≡ cond a (Held held) (Unknown Damaged) → went g q ≡ cond a G (went false ws) → outcome (Refused Damaged) q ≡ comes a (eqb held (room K levels))
+          go : (a : Bool) → Ok n ≡ cond a (Ok held) (Err Damaged) → went g q ≡ cond a G (went false ws) → outcome (Err Damaged) q ≡ comes a (eqb held (room K levels))
           go false z e = let n : ◌≡◌ {A = ℕ} 0 1 = cc in absurd (omega arith)
           go true z e = let w : n ≡ held = cc in rw (ne_eqb held (room K levels) (λ h. ne (w ∙ h ∙ sym capped)), ← e, p) refl

@@ -1,6 +1,6 @@
 -- The calls in the code's own shape.
 use Rattle.std.specs.Prelude.{◌*◌, ◌+◌, ◌-◌, ◌≡◌}
-use Rattle.laws.specs.Prelude.{Answer, BadShape, Bool, Count, Damaged, Done, Element, Empty, Full, Held, List, Out, Push, Refused, Replace, Unknown, cond, eqb, length, ltb, suc, true, untagged, zero, ℕ}
+use Rattle.laws.specs.Prelude.{Answer, BadShape, Bool, Damaged, Element, Empty, Full, List, Push, Replace, cond, eqb, length, ltb, suc, true, untagged, zero, ℕ, Result, Refusal, Ok, Err, None, Some}
 use Rattle.cluster_node.specs.declared.Seen.{Seen}
 use Rattle.cluster_model.specs.Prelude.{Outcome, called, outcome, room, shape_ok, width, word}
 use Rattle.cluster_node.specs.Leaf.{elem_at, ok_by, look_node, place_in}
@@ -19,7 +19,7 @@ unfoldable pub held_by : ℕ → List ℕ → Seen → ℕ
 held_by K ws v = v.count + (word ws (0 * width K) + word ws (0 * width K + 1))
 
 abbrev pub went_to : Answer → Went → Outcome
-went_to a g = cond g.ok (outcome a g.words) (outcome (Refused Damaged) g.words)
+went_to a g = cond g.ok (outcome a g.words) (outcome (Err Damaged) g.words)
 
 module _ (K levels : ℕ) where
   abbrev pub limit_of : ℕ
@@ -30,23 +30,23 @@ module _ (K levels : ℕ) where
 
   -- shape and root, then what the request comes to
   unfoldable pub opened_to : List ℕ → Outcome → Outcome
-  opened_to ws o = cond (shape_ok K levels (length ws)) (cond (root_fine ws) o (outcome (Refused Damaged) ws)) (outcome (Refused BadShape) ws)
+  opened_to ws o = cond (shape_ok K levels (length ws)) (cond (root_fine ws) o (outcome (Err Damaged) ws)) (outcome (Err BadShape) ws)
 
-  unfoldable pub held_down : List ℕ → Count
-  held_down ws = cond (shape_ok K levels (length ws)) (cond (root_fine ws) (Held (held_by K ws (look_node K ws 0))) (Unknown Damaged)) (Unknown BadShape)
+  unfoldable pub held_down : List ℕ → Result ℕ Refusal
+  held_down ws = cond (shape_ok K levels (length ws)) (cond (root_fine ws) (Ok (held_by K ws (look_node K ws 0))) (Err Damaged)) (Err BadShape)
 
   -- of an element that has a tag
   unfoldable pub push_down : Element → List ℕ → Outcome
   push_down x ws =
-      opened_to ws (cond (eqb (held_by K ws (look_node K ws 0)) (room K levels)) (outcome (Refused Full) ws) (went_to Done (put_down K (levels - 1) 0 limit_of (look_node K ws 0) x ws)))
+      opened_to ws (cond (eqb (held_by K ws (look_node K ws 0)) (room K levels)) (outcome (Err Full) ws) (went_to (Ok None) (put_down K (levels - 1) 0 limit_of (look_node K ws 0) x ws)))
 
   unfoldable pub pop_down : List ℕ → Outcome
-  pop_down ws = opened_to ws (cond (eqb (held_by K ws (look_node K ws 0)) 0) (outcome (Refused Empty) ws)
-      (went_to (Out (elem_at ws (place_in K 0 (look_node K ws 0).low))) (take_down K (levels - 1) 0 limit_of (look_node K ws 0).low ws)))
+  pop_down ws = opened_to ws (cond (eqb (held_by K ws (look_node K ws 0)) 0) (outcome (Err Empty) ws)
+      (went_to (Ok (Some (elem_at ws (place_in K 0 (look_node K ws 0).low)))) (take_down K (levels - 1) 0 limit_of (look_node K ws 0).low ws)))
 
   unfoldable pub replace_down : Element → List ℕ → Outcome
-  replace_down x ws = opened_to ws (cond (eqb (held_by K ws (look_node K ws 0)) 0) (outcome (Refused Empty) ws)
-      (went_to (Out (elem_at ws (place_in K 0 (look_node K ws 0).low))) (swap_down K (levels - 1) 0 limit_of (look_node K ws 0).low x ws)))
+  replace_down x ws = opened_to ws (cond (eqb (held_by K ws (look_node K ws 0)) 0) (outcome (Err Empty) ws)
+      (went_to (Ok (Some (elem_at ws (place_in K 0 (look_node K ws 0).low)))) (swap_down K (levels - 1) 0 limit_of (look_node K ws 0).low x ws)))
 
 -- the answer of a push and of a replace of any element without a tag; every word stands
 abbrev pub Bars : ℕ → ℕ → List ℕ → Answer → Type 0

@@ -13,10 +13,10 @@ ghost use Rattle.cluster.specs.Coded.{nodes_of, few_nodes, held_by, push_down, r
 
 use cluster_node::{
     COUNTS, FOUR_LEFT, FOUR_RIGHT, PLACE_WORDS, RIGHT, Seen, bare_at, choice, choice_full, choose,
-    choose_word, clear_place, elem_at, high_lead, look, look_each, low_four, no_choice, node_ok,
-    raise, room_under, set_place, sink, wide,
+    clear_place, elem_at, high_lead, look, look_each, low_four, node_ok, raise, room_under,
+    set_place, sink,
 };
-use strip::{Answer, Count, Element, Refusal, Request, goes_down, is_untagged, lower, stays};
+use strip::{Answer, Element, Refusal, Request, goes_down, is_untagged, lower, stays};
 
 // ---- the three operations
 
@@ -38,15 +38,17 @@ fn take(s: &mut [u32], k: usize, left: usize, at: usize, limit: usize, place: us
     let below = room_under(k, limit);
     // at four places the children are scanned here and not behind a call, most are full and nothing else is asked; where that gives no choice,
     // place by place
-    let mut c = no_choice();
-    if k == 4 {
+    let four = if k == 4 {
         let p = low_four(s, at + at + FOUR_LEFT);
         let q = low_four(s, at + at + FOUR_RIGHT);
-        c = choice_full(s, below, at, p, q);
-    }
-    if !c.ok {
-        c = choice(s, k, below, at);
-    }
+        choice_full(s, below, at, p, q)
+    } else {
+        None
+    };
+    let c = match four {
+        Some(c) => c,
+        None => choice(s, k, below, at),
+    };
     if !c.ok {
         return false;
     }
@@ -57,8 +59,7 @@ fn take(s: &mut [u32], k: usize, left: usize, at: usize, limit: usize, place: us
         return false;
     }
     sink(s, at, c.right, l, r);
-    let up = c.up;
-    set_place(s, i, up);
+    set_place(s, i, c.up);
     true
 }
 
@@ -85,20 +86,22 @@ fn swap(
         return true;
     }
     let below = room_under(k, limit);
-    let mut c = no_choice();
-    if k == 4 {
+    // here too, and not in a function with those of take
+    let four = if k == 4 {
         let p = low_four(s, at + at + FOUR_LEFT);
         let q = low_four(s, at + at + FOUR_RIGHT);
-        c = choice_full(s, below, at, p, q);
-    }
-    if !c.ok {
-        c = choice(s, k, below, at);
-    }
+        choice_full(s, below, at, p, q)
+    } else {
+        None
+    };
+    let c = match four {
+        Some(c) => c,
+        None => choice(s, k, below, at),
+    };
     if !c.ok {
         return false;
     }
-    let up = c.up;
-    if !lower(up, x) {
+    if !lower(c.up, x) {
         set_place(s, i, x);
         return true;
     }
@@ -106,7 +109,7 @@ fn swap(
     if !done {
         return false;
     }
-    set_place(s, i, up);
+    set_place(s, i, c.up);
     true
 }
 
@@ -143,12 +146,12 @@ fn put(s: &mut [u32], k: usize, left: usize, at: usize, limit: usize, x: Element
     let r = s[at + RIGHT];
     let right = r < l;
     // x goes on to the side that holds fewer; that side tells whether there is room, and the other whether both counts are within it
-    let fewer = choose_word(right, r, l);
-    let more = choose_word(right, l, r);
-    if limit < wide(more) {
+    let fewer = choose(right, r, l);
+    let more = choose(right, l, r);
+    if limit < more as usize {
         return false;
     }
-    if limit <= wide(fewer) {
+    if limit <= fewer as usize {
         return false;
     }
     let width = COUNTS + k * PLACE_WORDS;
@@ -173,27 +176,20 @@ fn put(s: &mut [u32], k: usize, left: usize, at: usize, limit: usize, x: Element
 // The largest capacity of a heap.
 pub const PLACE_LIMIT: usize = 5460;
 
-// 2^levels − 1, of more than 12 levels 2^13 − 1, which is above the limit. Every call asks for it, so it is a shift and no loop.
+// 2^levels − 1, of more than 12 levels 2^13 − 1, which is above the limit (a number and no Option: `few_nodes` promises it). Every call asks for it, so it is a shift and no loop.
 pub fn nodes(levels: usize) -> usize
     ensures { result ≡ few_nodes levels }
 {
     if 12 < levels {
         return 8191;
     }
-    let power: usize = 1 << levels;
-    power - 1
+    (1 << levels) - 1
 }
 
 pub fn shape_ok(k: usize, levels: usize, len: usize) -> bool
     ensures { result ≡ shape_ok k levels len }
 {
-    if k < 2 {
-        return false;
-    }
-    if 16 < k {
-        return false;
-    }
-    if levels < 1 {
+    if k < 2 || 16 < k || levels < 1 {
         return false;
     }
     let n = nodes(levels);
@@ -204,12 +200,11 @@ pub fn shape_ok(k: usize, levels: usize, len: usize) -> bool
 }
 
 // How many elements so many levels hold.
-fn capacity(k: usize, levels: usize) -> usize
+pub fn capacity(k: usize, levels: usize) -> usize
     requires { (k ≤ 16) × (nodes_of levels ≤ place_limit) }
     ensures { result ≡ room k levels }
 {
-    let n = nodes(levels);
-    k * n
+    k * nodes(levels)
 }
 
 // The root is node 0: its counts are words 0 and 1, its places begin at word 2. Its scan, its tests, what is held and an element of it.
@@ -227,19 +222,11 @@ fn root_ok(s: &[u32], k: usize, limit: usize, v: Seen) -> bool
     node_ok(s, k, limit, 0, v)
 }
 
-fn counted(x: u32) -> usize
-    ensures { (result ≡ x) × (result < 4294967296) }
-{
-    x as usize
-}
-
 fn root_held(s: &[u32], k: usize, v: Seen) -> usize
     requires { (Here k 0 (length s.now)) × (v.count ≤ 16) }
     ensures { result ≡ held_by k s.now v }
 {
-    let l = counted(s[0]);
-    let r = counted(s[RIGHT]);
-    v.count + (l + r)
+    v.count + (s[0] as usize + s[RIGHT] as usize)
 }
 
 fn root_elem(s: &[u32], k: usize, place: usize) -> Element
@@ -250,28 +237,26 @@ fn root_elem(s: &[u32], k: usize, place: usize) -> Element
 }
 
 // How many are held, by the root alone.
-pub fn held(store: &[u32], places: usize, levels: usize) -> Count
+pub fn held(store: &[u32], places: usize, levels: usize) -> Result<u32, Refusal>
     ensures { result ≡ held_count places levels store.now }
 {
     if !shape_ok(places, levels, store.len()) {
-        return Count::Unknown(Refusal::BadShape);
+        return Err(Refusal::BadShape);
     }
     let limit = capacity(places, levels - 1);
     let v = root_look(store, places);
     if !root_ok(store, places, limit, v) {
-        return Count::Unknown(Refusal::Damaged);
+        return Err(Refusal::Damaged);
     }
-    Count::Held(root_held(store, places, v) as u32)
+    Ok(root_held(store, places, v) as u32)
 }
 
 // A push or replace without a tag: the shape and the root are tested all the same, since damage comes first, and nothing below the root is read.
 fn bar(store: &[u32], places: usize, levels: usize) -> Answer
     ensures { Bars places levels store.now result }
 {
-    match held(store, places, levels) {
-        Count::Unknown(why) => Answer::Refused(why),
-        Count::Held(_) => Answer::Refused(Refusal::NoTag),
-    }
+    held(store, places, levels)?;
+    Err(Refusal::NoTag)
 }
 
 // x has a tag. The put comes first: where it is done there was room, and the root was read once.
@@ -279,23 +264,18 @@ fn push_tagged(store: &mut [u32], k: usize, levels: usize, x: Element) -> Answer
     ensures { outcome result store.new ≡ push_down k levels x store.old }
 {
     if !shape_ok(k, levels, store.len()) {
-        return Answer::Refused(Refusal::BadShape);
+        return Err(Refusal::BadShape);
     }
     let limit = capacity(k, levels - 1);
     if put(store, k, levels - 1, 0, limit, x) {
-        return Answer::Done;
+        return Ok(None);
     }
     // nothing is written: the root, and how many it holds, say why
-    let all = held(store, k, levels);
-    match all {
-        Count::Unknown(why) => Answer::Refused(why),
-        Count::Held(n) => {
-            if n as usize == capacity(k, levels) {
-                return Answer::Refused(Refusal::Full);
-            }
-            Answer::Refused(Refusal::Damaged)
-        }
+    let n = held(store, k, levels)?;
+    if n as usize == capacity(k, levels) {
+        return Err(Refusal::Full);
     }
+    Err(Refusal::Damaged)
 }
 
 pub fn push(store: &mut [u32], places: usize, levels: usize, x: Element) -> Answer
@@ -311,21 +291,21 @@ pub fn pop(store: &mut [u32], places: usize, levels: usize) -> Answer
     ensures { outcome result store.new ≡ called places levels Request.Pop store.old }
 {
     if !shape_ok(places, levels, store.len()) {
-        return Answer::Refused(Refusal::BadShape);
+        return Err(Refusal::BadShape);
     }
     let limit = capacity(places, levels - 1);
     let v = root_look(store, places);
     if !root_ok(store, places, limit, v) {
-        return Answer::Refused(Refusal::Damaged);
+        return Err(Refusal::Damaged);
     }
     if root_held(store, places, v) == 0 {
-        return Answer::Refused(Refusal::Empty);
+        return Err(Refusal::Empty);
     }
     let low = root_elem(store, places, v.low);
     if !take(store, places, levels - 1, 0, limit, v.low) {
-        return Answer::Refused(Refusal::Damaged);
+        return Err(Refusal::Damaged);
     }
-    Answer::Out(low)
+    Ok(Some(low))
 }
 
 // x has a tag.
@@ -333,21 +313,21 @@ fn replace_tagged(store: &mut [u32], k: usize, levels: usize, x: Element) -> Ans
     ensures { outcome result store.new ≡ replace_down k levels x store.old }
 {
     if !shape_ok(k, levels, store.len()) {
-        return Answer::Refused(Refusal::BadShape);
+        return Err(Refusal::BadShape);
     }
     let limit = capacity(k, levels - 1);
     let v = root_look(store, k);
     if !root_ok(store, k, limit, v) {
-        return Answer::Refused(Refusal::Damaged);
+        return Err(Refusal::Damaged);
     }
     if root_held(store, k, v) == 0 {
-        return Answer::Refused(Refusal::Empty);
+        return Err(Refusal::Empty);
     }
     let low = root_elem(store, k, v.low);
     if !swap(store, k, levels - 1, 0, limit, v.low, x) {
-        return Answer::Refused(Refusal::Damaged);
+        return Err(Refusal::Damaged);
     }
-    Answer::Out(low)
+    Ok(Some(low))
 }
 
 // A pop and then a push: the lowest held is answered, whatever the newcomer's rank.
@@ -360,25 +340,13 @@ pub fn replace(store: &mut [u32], places: usize, levels: usize, x: Element) -> A
     replace_tagged(store, places, levels, x)
 }
 
-// Writes zeros to the first n words.
-fn zero_words(s: &mut [u32], n: usize)
-    requires { n ≤ length s.old }
-    ensures { s.new ≡ replicate n 0 ++ drop n s.old }
-{
-    let mut i = 0;
-    while i < n {
-        s[i] = 0;
-        i += 1;
-    }
-}
-
 pub fn clear(store: &mut [u32], places: usize, levels: usize) -> Answer
     ensures { outcome result store.new ≡ cleared places levels store.old }
 {
     if !shape_ok(places, levels, store.len()) {
-        return Answer::Refused(Refusal::BadShape);
+        return Err(Refusal::BadShape);
     }
-    let n = nodes(levels);
-    zero_words(store, n * (COUNTS + places * PLACE_WORDS));
-    Answer::Done
+    let n = nodes(levels) * (COUNTS + places * PLACE_WORDS);
+    store[..n].fill(0);
+    Ok(None)
 }

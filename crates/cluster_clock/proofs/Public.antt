@@ -1,12 +1,12 @@
 -- The calls: the shape that is tested is the definition's, and behind it stand the steps.
-use Rattle.laws.specs.Prelude.{Answer, BadShape, Bool, Damaged, Held, List, Refused, Request, Unknown, ◌-◌, ◌∙◌, ◌≡◌, ap, ap₂, arith, false, length, not, not-false, not-true, pred, refl, suc, sym, true, zero, ℕ}
+use Rattle.laws.specs.Prelude.{Answer, BadShape, Bool, Damaged, List, Request, ◌-◌, ◌∙◌, ◌≡◌, ap, ap₂, arith, false, length, not, not-true, pred, refl, suc, sym, true, zero, ℕ, Ok, Err}
 use Rattle.cluster.proofs.Shapes.{shape-here, shape-true}
 use Rattle.cluster_clock_model.proofs.Laws.{cycled-bad}
-use Rattle.cluster_clock_model.specs.Prelude.{CycleOutcome, DrainOutcome, clock_cleared, clock_held, cycle_outcome, cycled, drain_outcome, drains, fresh}
+use Rattle.cluster_clock_model.specs.Prelude.{CycleOutcome, DrainOutcome, clock_cleared, clock_held, cycle_outcome, cycled, drain_outcome, drains, fresh, sane_at}
 use Rattle.cluster_clock_model.specs.declared.Stage.{Stage}
 use Rattle.cluster_model.specs.Prelude.{Outcome, cleared, outcome, room, shape_ok}
 use Rattle.cluster_clock_level.proofs.Cycles.{shape-root}
-use Rattle.cluster_clock_level.specs.Turn.{Opened, RootIn}
+use Rattle.cluster_clock_level.specs.Turn.{Read, RootIn}
 use Rattle.cluster_clock_level.specs.declared.shaped.Root.{Root}
 
 module _ (K levels : ℕ) (ws : List ℕ) (t : Bool) (shaped : t ≡ shape_ok K levels (length ws)) where
@@ -15,7 +15,7 @@ module _ (K levels : ℕ) (ws : List ℕ) (t : Bool) (shaped : t ≡ shape_ok K 
     off : shape_ok K levels (length ws) ≡ false
     off = sym shaped ∙ not-true t no
 
-    module _ (a : Answer) (rs rs' : List Stage) (p : (a ≡ Refused BadShape) × (rs' ≡ rs)) where
+    module _ (a : Answer) (rs rs' : List Stage) (p : (a ≡ Err BadShape) × (rs' ≡ rs)) where
       pub bad-cycle : (r : Request) → cycle_outcome a ws rs' ≡ cycled K levels r rs ws
       bad-cycle r = (λ i. cycle_outcome (p.0 i) ws (p.1 i)) ∙ sym (cycled-bad K levels r rs ws off)
 
@@ -23,11 +23,11 @@ module _ (K levels : ℕ) (ws : List ℕ) (t : Bool) (shaped : t ≡ shape_ok K 
       unfolding clock_cleared
       bad-clear = (λ i. cycle_outcome (p.0 i) ws (p.1 i)) ∙ rw off refl
 
-    pub bad-held : Unknown BadShape ≡ clock_held K levels ws
+    pub bad-held : Err BadShape ≡ clock_held K levels ws
     unfolding clock_held
     bad-held = rw off refl
 
-    pub bad-drain : (budget : ℕ) (a : Answer) (n : ℕ) (l : Bool) (rs rs' : List Stage) → (a ≡ Refused BadShape) × (n ≡ 0) × (l ≡ false) × (rs' ≡ rs) → drain_outcome a n l ws rs' ≡ drains K levels budget rs ws
+    pub bad-drain : (budget : ℕ) (a : Answer) (n : ℕ) (l : Bool) (rs rs' : List Stage) → (a ≡ Err BadShape) × (n ≡ 0) × (l ≡ false) × (rs' ≡ rs) → drain_outcome a n l ws rs' ≡ drains K levels budget rs ws
     unfolding drains
     bad-drain budget a n l rs rs' p = (λ i. record { answer = p.0 i; cycles = p.1 i; left = p.2 i; words = ws; records = p.3 i }) ∙ rw off refl
 
@@ -67,11 +67,10 @@ module _ (K levels : ℕ) (ws : List ℕ) (t : Bool) (shaped : t ≡ shape_ok K 
       limit_is : room K (pred levels) ≡ top
       limit_is = ap (room K) less ∙ sym room-is
 
-      module _ (o : Root) (read : Opened K top ws o) where
-        pub held-damaged : not o.ok ≡ true → Unknown Damaged ≡ clock_held K levels ws
-        unfolding clock_held
-        held-damaged e = rw (on, limit_is, sym read.ok ∙ not-true o.ok e) refl
+      pub held-damaged : sane_at K top ws 0 ≡ false → Err Damaged ≡ clock_held K levels ws
+      unfolding clock_held
+      held-damaged bad = rw (on, limit_is, bad) refl
 
-        pub held-fine : not o.ok ≡ false → Held o.held ≡ clock_held K levels ws
-        unfolding clock_held
-        held-fine e = rw (on, limit_is, sym read.ok ∙ not-false o.ok e) (ap Held (read.held (not-false o.ok e)))
+      pub held-fine : (o : Root) → Read K top ws o → Ok o.held ≡ clock_held K levels ws
+      unfolding clock_held
+      held-fine o read = rw (on, limit_is, read.ok) (ap Ok read.held)

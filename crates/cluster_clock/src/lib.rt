@@ -2,25 +2,14 @@
 // be asked for in every cycle: nothing is ever too soon.
 #![tactic(auto)]
 
-ghost use Rattle.std.specs.Prelude.{◌≡◌, ◌≤◌};
-ghost use Rattle.cluster.specs.Coded.{nodes_of};
+ghost use Rattle.std.specs.Prelude.{◌≡◌};
 ghost use Rattle.cluster_clock_model.specs.Calls.{clock_cleared, clock_held, drain_outcome, drains, cycled, cycle_outcome};
-ghost use Rattle.cluster_model.specs.Heap.{room};
 
-use cluster::{nodes, shape_ok};
+use cluster::{capacity, shape_ok};
 pub use cluster_clock_level::shaped::fresh_records;
-use cluster_clock_level::shaped::{cycle_shaped, drain_shaped, left_as, open_root, report};
+use cluster_clock_level::shaped::{cycle_shaped, drain_shaped, open_root};
 use cluster_clock_model::{ClusterCycled, ClusterDrained, STAGES, Stage};
-use strip::{Answer, Count, Element, Refusal, Request};
-
-// How many elements so many levels hold.
-fn room_of(places: usize, levels: usize) -> usize
-    requires { (places ≤ 16) × (nodes_of levels ≤ 5460) }
-    ensures { result ≡ room places levels }
-{
-    let n = nodes(levels);
-    places * n
-}
+use strip::{Element, Refusal, Request, left_as, report};
 
 // ---- a cycle
 
@@ -32,13 +21,13 @@ pub fn cycle(
     records: [Stage; STAGES],
     request: Request,
 ) -> ClusterCycled
-    ensures { cycle_outcome result.answer store.new result.records ≡ cycled places levels request records store.old }
+    ensures { cycle_outcome result.answer store.new result.state ≡ cycled places levels request records store.old }
 {
     if !shape_ok(places, levels, store.len()) {
         return left_as(Refusal::BadShape, records);
     }
     let below = levels - 1;
-    let top = room_of(places, below);
+    let top = capacity(places, below);
     cycle_shaped(store, places, below, top, records, request)
 }
 
@@ -49,7 +38,7 @@ pub fn push(
     records: [Stage; STAGES],
     x: Element,
 ) -> ClusterCycled
-    ensures { cycle_outcome result.answer store.new result.records ≡ cycled places levels (Request.Push x) records store.old }
+    ensures { cycle_outcome result.answer store.new result.state ≡ cycled places levels (Request.Push x) records store.old }
 {
     cycle(store, places, levels, records, Request::Push(x))
 }
@@ -60,7 +49,7 @@ pub fn pop(
     levels: usize,
     records: [Stage; STAGES],
 ) -> ClusterCycled
-    ensures { cycle_outcome result.answer store.new result.records ≡ cycled places levels Request.Pop records store.old }
+    ensures { cycle_outcome result.answer store.new result.state ≡ cycled places levels Request.Pop records store.old }
 {
     cycle(store, places, levels, records, Request::Pop)
 }
@@ -72,7 +61,7 @@ pub fn replace(
     records: [Stage; STAGES],
     x: Element,
 ) -> ClusterCycled
-    ensures { cycle_outcome result.answer store.new result.records ≡ cycled places levels (Request.Replace x) records store.old }
+    ensures { cycle_outcome result.answer store.new result.state ≡ cycled places levels (Request.Replace x) records store.old }
 {
     cycle(store, places, levels, records, Request::Replace(x))
 }
@@ -86,32 +75,29 @@ pub fn clear(
     levels: usize,
     records: [Stage; STAGES],
 ) -> ClusterCycled
-    ensures { cycle_outcome result.answer store.new result.records ≡ clock_cleared places levels records store.old }
+    ensures { cycle_outcome result.answer store.new result.state ≡ clock_cleared places levels records store.old }
 {
     if !shape_ok(places, levels, store.len()) {
         return left_as(Refusal::BadShape, records);
     }
-    let answer = cluster::clear(store, places, levels);
-    let none = fresh_records();
     ClusterCycled {
-        answer,
-        records: none,
+        answer: cluster::clear(store, places, levels),
+        state: fresh_records(),
     }
 }
 
 // How many are held, by the root alone, in the middle of any work too: no record is read.
-pub fn held(store: &[u32], places: usize, levels: usize) -> Count
+pub fn held(store: &[u32], places: usize, levels: usize) -> Result<u32, Refusal>
     ensures { result ≡ clock_held places levels store.now }
 {
     if !shape_ok(places, levels, store.len()) {
-        return Count::Unknown(Refusal::BadShape);
+        return Err(Refusal::BadShape);
     }
-    let top = room_of(places, levels - 1);
-    let root = open_root(store, places, top);
-    if !root.ok {
-        return Count::Unknown(Refusal::Damaged);
+    let top = capacity(places, levels - 1);
+    match open_root(store, places, top) {
+        Some(root) => Ok(root.held as u32),
+        None => Err(Refusal::Damaged),
     }
-    Count::Held(root.held as u32)
 }
 
 // ---- drain
@@ -124,12 +110,12 @@ pub fn drain(
     records: [Stage; STAGES],
     budget: usize,
 ) -> ClusterDrained
-    ensures { drain_outcome result.answer result.cycles result.left store.new result.records ≡ drains places levels budget records store.old }
+    ensures { drain_outcome result.answer result.cycles result.left store.new result.state ≡ drains places levels budget records store.old }
 {
     if !shape_ok(places, levels, store.len()) {
-        return report(Answer::Refused(Refusal::BadShape), 0, false, records);
+        return report(Err(Refusal::BadShape), 0, false, records);
     }
     let below = levels - 1;
-    let top = room_of(places, below);
+    let top = capacity(places, below);
     drain_shaped(store, places, below, top, records, budget)
 }

@@ -1,5 +1,6 @@
 -- A shape that passes gives what the passes over the levels ask; a cycle is the definition's.
-use Rattle.laws.specs.Prelude.{Answer, Bool, Damaged, List, Refused, Request, ◌&&◌, ◌*◌, ◌+◌, ◌∙◌, ◌≡◌, ◌≤◌, ap, ap₂, arith, false, length, not, not-false, not-true, refl, suc, sym, true, zero, ℕ}
+use Rattle.std.proofs.Common.{None, Some}
+use Rattle.laws.specs.Prelude.{Answer, Bool, Damaged, List, Request, ◌&&◌, ◌*◌, ◌+◌, ◌∙◌, ◌≡◌, ◌≤◌, ap, ap₂, arith, false, length, not, not-false, not-true, refl, suc, sym, true, zero, ℕ, Err}
 use Rattle.cluster.proofs.Shapes.{extent-nodes, nodes-room, shape_is}
 use Rattle.cluster.specs.Coded.{nodes_of}
 use Rattle.cluster_clock_model.proofs.Laws.{cycled-damaged, cycled-fine, few-levels}
@@ -56,25 +57,22 @@ shape-root K k top ws ok e = record {
 }
 
 -- ---- a cycle
-module _ (K k top : ℕ) (rs : List Stage) (ws : List ℕ) (shaped : shape_ok K (suc k) (length ws) ≡ true) (room-is : top ≡ room K k) (r : Request) (g : Ruled) (ruled : RulesFor K top r ws g) where
-  now : RulesRoot K k r ws g
-  now = ruled k room-is
-
+module _ (K k top : ℕ) (rs : List Stage) (ws : List ℕ) (shaped : shape_ok K (suc k) (length ws) ≡ true) (room-is : top ≡ room K k) (r : Request) where
   -- damage at the root
-  pub cycle-root : not g.ok ≡ true → (a : Answer) (rs' : List Stage) → (a ≡ Refused Damaged) × (rs' ≡ rs) → cycle_outcome a ws rs' ≡ cycled K (suc k) r rs ws
-  cycle-root e a rs' p =
-      let f : (asked_ok K (suc k) r ws && stages_ok K k 0 0 rs ws) ≡ false = ap (λ (b : Bool). b && stages_ok K k 0 0 rs ws) (sym now.ok ∙ not-true g.ok e) in
+  pub cycle-root : RulesFor K top r ws None → (a : Answer) (rs' : List Stage) → (a ≡ Err Damaged) × (rs' ≡ rs) → cycle_outcome a ws rs' ≡ cycled K (suc k) r rs ws
+  cycle-root ruled a rs' p =
+      let f : (asked_ok K (suc k) r ws && stages_ok K k 0 0 rs ws) ≡ false = ap (λ (b : Bool). b && stages_ok K k 0 0 rs ws) (ruled k room-is) in
       (λ i. cycle_outcome (p.0 i) ws (p.1 i)) ∙ sym (cycled-damaged K (suc k) r rs ws shaped f)
 
-  module _ (fine : not g.ok ≡ false) (t : Bool) (tested : t ≡ stages_ok K k 0 0 rs ws) where
-    yes' : g.ok ≡ true
-    yes' = not-false g.ok fine
+  module _ (g : Ruled) (ruled : RulesFor K top r ws (Some g)) (t : Bool) (tested : t ≡ stages_ok K k 0 0 rs ws) where
+    now : RulesRoot K k r ws g
+    now = ruled k room-is
 
     sound-is : (asked_ok K (suc k) r ws && stages_ok K k 0 0 rs ws) ≡ t
-    sound-is = ap₂ (λ (a b : Bool). a && b) (sym now.ok ∙ yes') (sym tested)
+    sound-is = ap₂ (λ (a b : Bool). a && b) now.ok (sym tested)
 
     -- damage at a record
-    pub cycle-damaged : not t ≡ true → (a : Answer) (rs' : List Stage) → (a ≡ Refused Damaged) × (rs' ≡ rs) → cycle_outcome a ws rs' ≡ cycled K (suc k) r rs ws
+    pub cycle-damaged : not t ≡ true → (a : Answer) (rs' : List Stage) → (a ≡ Err Damaged) × (rs' ≡ rs) → cycle_outcome a ws rs' ≡ cycled K (suc k) r rs ws
     cycle-damaged e a rs' p = (λ i. cycle_outcome (p.0 i) ws (p.1 i)) ∙ sym (cycled-damaged K (suc k) r rs ws shaped (sound-is ∙ not-true t e))
 
     module _ (e : not t ≡ false) where
@@ -84,12 +82,12 @@ module _ (K k top : ℕ) (rs : List Stage) (ws : List ℕ) (shaped : shape_ok K 
         small = shape-small K k (length ws) shaped;
         records = shape-records K k (length ws) shaped;
         tested = sym tested ∙ not-false t e;
-        task = now.task yes';
+        task = now.task;
       }
 
       pub cycle_runs : (ws' : List ℕ) (rs' : List Stage) → passed K ws' rs' ≡ pass K k 0 (work_of g.task) 0 rs ws → cycle_outcome g.answer ws' rs' ≡ cycled K (suc k) r rs ws
       unfolding cycle_run
       cycle_runs ws' rs' p =
-          let q : passed K ws' rs' ≡ pass K k 0 (work (rule_at K (suc k) r ws).op 0) 0 rs ws = p ∙ ap (λ (w : Work). pass K k 0 w 0 rs ws) (now.work yes') in
-          ap₂ (λ (a : Answer) (u : Passed K). cycle_outcome a u.words u.records) (now.answer yes') q
+          let q : passed K ws' rs' ≡ pass K k 0 (work (rule_at K (suc k) r ws).op 0) 0 rs ws = p ∙ ap (λ (w : Work). pass K k 0 w 0 rs ws) now.work in
+          ap₂ (λ (a : Answer) (u : Passed K). cycle_outcome a u.words u.records) now.answer q
           ∙ sym (cycled-fine K (suc k) r rs ws shaped (sound-is ∙ not-false t e))

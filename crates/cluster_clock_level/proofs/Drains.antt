@@ -1,10 +1,19 @@
 -- Drain: each test and what follows it make the outcome that the definition says.
-use Rattle.laws.specs.Prelude.{Answer, Bool, Done, Idle, List, ◌&&◌, ◌+◌, ◌-◌, ◌∙◌, ◌≡◌, ◌≤◌, add-one, ap, ap₂, arith, cond, false, is_refused, length, not, refl, suc, sym, true, zero, ℕ}
+use Rattle.laws.specs.Prelude.{Answer, Bool, Idle, List, ◌&&◌, ◌+◌, ◌-◌, ◌∙◌, ◌≡◌, ◌≤◌, add-one, ap, ap₂, arith, cond, false, is_refused, length, not, refl, suc, sym, true, zero, ℕ, Ok, None}
 use Rattle.cluster_clock_model.specs.Prelude.{CycleOutcome, DrainOutcome, cycle_outcome, cycled, drain_from, drain_outcome, drains, is_nothing, pending, quiet, stage_at}
+use Rattle.cluster_clock_model.specs.declared.Due.{Due}
+use Rattle.cluster_clock_model.specs.declared.Due.TheVariants as due
 use Rattle.cluster_clock_model.specs.declared.Stage.{Stage}
 use Rattle.cluster_model.specs.Prelude.{shape_ok}
 
 -- ---- is nothing pending?
+pub something : (d : Due) → (d ≡ due.Nothing → ⊥) → false ≡ is_nothing d
+unfolding is_nothing
+something due.Nothing h = absurd (h refl)
+something (due.Put y) h = refl
+something (due.Fill j) h = refl
+something (due.Swap j x) h = refl
+
 -- i of k records seen
 abbrev pub Quiet : ℕ → ℕ → List Stage → Bool → Type 0
 Quiet k i rs ok = (ok && quiet (k - i) rs i) ≡ quiet k rs 0
@@ -42,16 +51,16 @@ module _ (K n k : ℕ) (s : List Stage) (ws : List ℕ) (q : Bool) (read : q ≡
   waits : not q ≡ pending K (suc k) s
   waits = ap not read
 
-  pub drain-quiet : (b : ℕ) (a : Answer) (i : ℕ) (l : Bool) (u : List Stage) → q ≡ true → Report a i l u Done n false s → drain_outcome a i l ws u ≡ drain_from K (suc k) b n s ws
+  pub drain-quiet : (b : ℕ) (a : Answer) (i : ℕ) (l : Bool) (u : List Stage) → q ≡ true → Report a i l u (Ok None) n false s → drain_outcome a i l ws u ≡ drain_from K (suc k) b n s ws
   unfolding drain_from
-  drain-quiet zero a i l u e p = reported a Done i n l false u s ws p ∙ ap (λ (t : Bool). drain_outcome Done n t ws s) (sym (ap not e) ∙ waits)
-  drain-quiet (suc b) a i l u e p = rw (sym waits ∙ ap not e) (reported a Done i n l false u s ws p)
+  drain-quiet zero a i l u e p = reported a (Ok None) i n l false u s ws p ∙ ap (λ (t : Bool). drain_outcome (Ok None) n t ws s) (sym (ap not e) ∙ waits)
+  drain-quiet (suc b) a i l u e p = rw (sym waits ∙ ap not e) (reported a (Ok None) i n l false u s ws p)
 
   -- the budget is spent
-  pub drain-spent : (b : ℕ) (a : Answer) (i : ℕ) (l : Bool) (u : List Stage) → b ≡ 0 → Report a i l u Done n (not q) s → drain_outcome a i l ws u ≡ drain_from K (suc k) b n s ws
+  pub drain-spent : (b : ℕ) (a : Answer) (i : ℕ) (l : Bool) (u : List Stage) → b ≡ 0 → Report a i l u (Ok None) n (not q) s → drain_outcome a i l ws u ≡ drain_from K (suc k) b n s ws
   unfolding drain_from
   drain-spent b a i l u z p =
-      reported a Done i n l (not q) u s ws p ∙ ap (λ (t : Bool). drain_outcome Done n t ws s) waits ∙ ap (λ (b : ℕ). drain_from K (suc k) b n s ws) (sym z)
+      reported a (Ok None) i n l (not q) u s ws p ∙ ap (λ (t : Bool). drain_outcome (Ok None) n t ws s) waits ∙ ap (λ (b : ℕ). drain_from K (suc k) b n s ws) (sym z)
 
   module _ (e : q ≡ false) where
     on : pending K (suc k) s ≡ true
@@ -64,7 +73,7 @@ module _ (K n k : ℕ) (s : List Stage) (ws : List ℕ) (q : Bool) (read : q ≡
         where
           step : (b : ℕ) → drain_from K (suc k) (suc b) n s ws ≡ cond t (drain_outcome x n true ws₁ s₁) (drain_from K (suc k) b (suc n) s₁ ws₁)
           step b =
-              ap (λ (t : Bool). cond t (cond (is_refused (cycled K (suc k) Idle s ws).answer) (drain_outcome (cycled K (suc k) Idle s ws).answer n true (cycled K (suc k) Idle s ws).words (cycled K (suc k) Idle s ws).records) (drain_from K (suc k) b (suc n) (cycled K (suc k) Idle s ws).records (cycled K (suc k) Idle s ws).words)) (drain_outcome Done n false ws s)) on
+              ap (λ (t : Bool). cond t (cond (is_refused (cycled K (suc k) Idle s ws).answer) (drain_outcome (cycled K (suc k) Idle s ws).answer n true (cycled K (suc k) Idle s ws).words (cycled K (suc k) Idle s ws).records) (drain_from K (suc k) b (suc n) (cycled K (suc k) Idle s ws).records (cycled K (suc k) Idle s ws).words)) (drain_outcome (Ok None) n false ws s)) on
               ∙ ap (λ (o : CycleOutcome). cond (is_refused o.answer) (drain_outcome o.answer n true o.words o.records) (drain_from K (suc k) b (suc n) o.records o.words)) (sym ran)
               ∙ ap (λ (t : Bool). cond t (drain_outcome x n true ws₁ s₁) (drain_from K (suc k) b (suc n) s₁ ws₁)) (sym tested)
 

@@ -1,5 +1,6 @@
 -- The root as it is read, and the ruling on a request, are the definitions'.
-use Rattle.laws.specs.Prelude.{Answer, Bool, Done, Element, Empty, Full, Idle, List, NoTag, Out, Pop, Push, Refused, Replace, Request, ◌&&◌, ◌*◌, ◌+◌, ◌-◌, ◌<◌, ◌||◌, ◌∙◌, ◌≡◌, ◌≤◌, ap, ap₂, arith, asks, cond, eq-eqb, eqb, eqb-false, eqb-true, false, false≢true, le-ltb, leb, leb-true, length, lt-ltb, ne_eqb, not, not-false, not-true, refl, subst, suc, sym, true, true≢false, untagged, ℕ}
+use Rattle.std.proofs.Common.{None, Option, Some}
+use Rattle.laws.specs.Prelude.{Answer, Bool, Element, Empty, Full, Idle, List, NoTag, Pop, Push, Replace, Request, ◌&&◌, ◌*◌, ◌+◌, ◌-◌, ◌<◌, ◌||◌, ◌∙◌, ◌≡◌, ◌≤◌, ap, ap₂, arith, asks, cond, eq-eqb, eqb, eqb-false, eqb-true, false, false≢true, le-ltb, leb, leb-true, length, lt-ltb, ne_eqb, not, not-false, not-true, refl, subst, suc, sym, true, true≢false, untagged, ℕ, Ok, None, Some, Err}
 use Rattle.promise.specs.Prelude.{always}
 use Rattle.cluster.proofs.Commute.{low-elem, low-place}
 use Rattle.cluster_node.proofs.Fulls.{and_r}
@@ -17,7 +18,7 @@ use Rattle.cluster_clock_level.specs.Stage.{GivesBy, Lowest, op_of, work_of}
 use Rattle.cluster_clock_level.specs.declared.Job.{Job}
 use Rattle.cluster_clock_level.specs.declared.Job.TheVariants as job
 use Rattle.cluster_clock_level.specs.declared.Task.{Task}
-use Rattle.cluster_clock_level.specs.Turn.{GivesAt, Opened, RootIn, Rules, RulesFor}
+use Rattle.cluster_clock_level.specs.Turn.{GivesAt, Opened, Read, RootIn, Rules, RulesFor}
 use Rattle.cluster_clock_level.specs.declared.shaped.Root.{Root}
 use Rattle.cluster_clock_level.specs.declared.shaped.Ruled.{Ruled}
 
@@ -57,13 +58,8 @@ module _ (K top : ℕ) (ws : List ℕ) (root : RootIn K top ws) (v : Seen) (seen
     test : t ≡ sane_at K top ws 0
     test = sane-here K top ws 0 (omega (arith, root.lies.some)) v seen-root t (tested ∙ ap (λ (i : ℕ). ok_by (K - 1) top ws i v) at_zero)
 
-    pub opened-not : (low : Element) → not t ≡ true → Opened K top ws (record { ok = false; held = 0; place = 0; low = low })
-    opened-not low e = record {
-      ok = sym (not-true t e) ∙ test;
-      few = omega arith;
-      held = λ z. absurd (false≢true z);
-      gives = λ z. absurd (false≢true z);
-    }
+    pub opened-not : not t ≡ true → Opened K top ws None
+    opened-not e = sym test ∙ not-true t e
 
     module _ (e : not t ≡ false) where
       fine : sane_at K top ws 0 ≡ true
@@ -93,12 +89,12 @@ module _ (K top : ℕ) (ws : List ℕ) (root : RootIn K top ws) (v : Seen) (seen
             let at : 2 + v.low * place_words ≡ place_in K 0 v.low = ap (λ (i : ℕ). i + v.low * place_words) at-two in
             (record { place = p; held = some }, read ∙ ap (elem_at ws) at ∙ ap (λ (j : ℕ). elem_at ws (place_in K 0 j)) p ∙ low-elem K ws 0 some)
 
-        pub opened : Opened K top ws (record { ok = true; held = v.count + (l + r); place = v.low; low = e₀ })
+        pub opened : Opened K top ws (Some (record { held = v.count + (l + r); place = v.low; low = e₀ }))
         opened = record {
-          ok = sym (not-false t e) ∙ test;
+          ok = fine;
           few = omega (arith, left-few, right-few, count-few, root.lies.few);
-          held = λ z. held-is;
-          gives = λ z h. lowest h;
+          held = held-is;
+          gives = lowest;
         }
 
 -- ---- the ruling
@@ -106,56 +102,55 @@ abbrev rest : Task
 rest = record { job = job.Rest; node = 0; place = 0 }
 
 module _ (c h place : ℕ) (e : Element) (r : Request) where
-  pub still-rules : (a : Answer) → rule c r h e ≡ ruling a none → (g : Ruled) → (g.ok ≡ true) × (g.answer ≡ a) × (g.task ≡ record { job = job.Rest; node = 0; place = 0 }) → Rules c h place e r g
+  pub still-rules : (a : Answer) → rule c r h e ≡ ruling a none → (g : Ruled) → (g.answer ≡ a) × (g.task ≡ record { job = job.Rest; node = 0; place = 0 }) → Rules c h place e r g
   unfolding op_of
   still-rules a f g p = record {
-    ok = p.0;
-    answer = p.1 ∙ ap (λ (u : Ruling). u.answer) (sym f);
-    work = ap work_of p.2 ∙ ap (λ (u : Ruling). work u.op 0) (sym f);
-    gives = subst (λ (t : Task). GivesAt t.job t.place place h) (sym p.2) tt;
+    answer = p.0 ∙ ap (λ (u : Ruling). u.answer) (sym f);
+    work = ap work_of p.1 ∙ ap (λ (u : Ruling). work u.op 0) (sym f);
+    gives = subst (λ (t : Task). GivesAt t.job t.place place h) (sym p.1) tt;
   }
 
   pub rules-as : (r' : Request) → r ≡ r' → (g : Ruled) → Rules c h place e r' g → Rules c h place e r g
   rules-as r' f g p = subst (λ (r : Request). Rules c h place e r g) (sym f) p
 
 module _ (c h place : ℕ) (e x : Element) (t : Bool) (tag : t ≡ untagged x) where
-  pub push-bare : t ≡ true → rule c (Push x) h e ≡ ruling (Refused NoTag) none
+  pub push-bare : t ≡ true → rule c (Push x) h e ≡ ruling (Err NoTag) none
   unfolding rule
   push-bare y = rw (sym tag ∙ y)
 
-  pub replace-bare : t ≡ true → rule c (Replace x) h e ≡ ruling (Refused NoTag) none
+  pub replace-bare : t ≡ true → rule c (Replace x) h e ≡ ruling (Err NoTag) none
   unfolding rule
   replace-bare y = rw (sym tag ∙ y)
 
   module _ (y : t ≡ false) where
-    pub push-full : c ≤ h → rule c (Push x) h e ≡ ruling (Refused Full) none
+    pub push-full : c ≤ h → rule c (Push x) h e ≡ ruling (Err Full) none
     unfolding rule
     push-full l = rw (sym tag ∙ y, le-ltb h c l)
 
-    pub push_goes : h < c → Rules c h place e (Push x) (record { ok = true; answer = Done; task = record { job = job.Put x; node = 0; place = 0 } })
+    pub push_goes : h < c → Rules c h place e (Push x) (record { answer = (Ok None); task = record { job = job.Put x; node = 0; place = 0 } })
     unfolding rule op_of
-    push_goes l = record { ok = refl; answer = rw (sym tag ∙ y, lt-ltb h c l); work = rw (sym tag ∙ y, lt-ltb h c l); gives = tt }
+    push_goes l = record { answer = rw (sym tag ∙ y, lt-ltb h c l); work = rw (sym tag ∙ y, lt-ltb h c l); gives = tt }
 
-    pub replace-empty : h ≡ 0 → rule c (Replace x) h e ≡ ruling (Refused Empty) none
+    pub replace-empty : h ≡ 0 → rule c (Replace x) h e ≡ ruling (Err Empty) none
     unfolding rule
     replace-empty z = rw (sym tag ∙ y, eq-eqb h 0 z)
 
-    pub replace-goes : (h ≡ 0 → ⊥) → Rules c h place e (Replace x) (record { ok = true; answer = Out e; task = record { job = job.Swap x; node = 0; place = place } })
+    pub replace-goes : (h ≡ 0 → ⊥) → Rules c h place e (Replace x) (record { answer = Ok (Some e); task = record { job = job.Swap x; node = 0; place = place } })
     unfolding rule op_of
-    replace-goes n = record { ok = refl; answer = rw (sym tag ∙ y, ne_eqb h 0 n); work = rw (sym tag ∙ y, ne_eqb h 0 n); gives = (refl, omega arith) }
+    replace-goes n = record { answer = rw (sym tag ∙ y, ne_eqb h 0 n); work = rw (sym tag ∙ y, ne_eqb h 0 n); gives = (refl, omega arith) }
 
 module _ (c h place : ℕ) (e : Element) where
-  pub idle-is : rule c Idle h e ≡ ruling Done none
+  pub idle-is : rule c Idle h e ≡ ruling (Ok None) none
   unfolding rule
   idle-is = refl
 
-  pub pop-empty : h ≡ 0 → rule c Pop h e ≡ ruling (Refused Empty) none
+  pub pop-empty : h ≡ 0 → rule c Pop h e ≡ ruling (Err Empty) none
   unfolding rule
   pop-empty z = rw (eq-eqb h 0 z)
 
-  pub pop_goes : (h ≡ 0 → ⊥) → Rules c h place e Pop (record { ok = true; answer = Out e; task = record { job = job.Take; node = 0; place = place } })
+  pub pop_goes : (h ≡ 0 → ⊥) → Rules c h place e Pop (record { answer = Ok (Some e); task = record { job = job.Take; node = 0; place = place } })
   unfolding rule op_of
-  pop_goes n = record { ok = refl; answer = rw (ne_eqb h 0 n); work = rw (ne_eqb h 0 n); gives = (refl, omega arith) }
+  pop_goes n = record { answer = rw (ne_eqb h 0 n); work = rw (ne_eqb h 0 n); gives = (refl, omega arith) }
 
 -- the element counts only where something is held
 rule-low : (c : ℕ) (r : Request) (h : ℕ) (e e' : Element) → (0 < h → e ≡ e') → rule c r h e ≡ rule c r h e'
@@ -164,17 +159,17 @@ rule-low c Idle h e e' f = refl
 rule-low c (Push x) h e e' f = refl
 rule-low c Pop h e e' f = go (eqb h 0) refl
   where
-    go : (b : Bool) → eqb h 0 ≡ b → cond b (ruling (Refused Empty) none) (ruling (Out e) take) ≡ cond b (ruling (Refused Empty) none) (ruling (Out e') take)
+    go : (b : Bool) → eqb h 0 ≡ b → cond b (ruling (Err Empty) none) (ruling (Ok (Some e)) take) ≡ cond b (ruling (Err Empty) none) (ruling (Ok (Some e')) take)
     go true z = refl
-    go false z = let n : h ≡ 0 → ⊥ = eqb-false h 0 z in ap (λ (e : Element). ruling (Out e) take) (f (omega arith))
-rule-low c (Replace x) h e e' f = ap (cond (untagged x) (ruling (Refused NoTag) none)) (go (eqb h 0) refl)
+    go false z = let n : h ≡ 0 → ⊥ = eqb-false h 0 z in ap (λ (e : Element). ruling (Ok (Some e)) take) (f (omega arith))
+rule-low c (Replace x) h e e' f = ap (cond (untagged x) (ruling (Err NoTag) none)) (go (eqb h 0) refl)
   where
-    go : (b : Bool) → eqb h 0 ≡ b → cond b (ruling (Refused Empty) none) (ruling (Out e) (swap x)) ≡ cond b (ruling (Refused Empty) none) (ruling (Out e') (swap x))
+    go : (b : Bool) → eqb h 0 ≡ b → cond b (ruling (Err Empty) none) (ruling (Ok (Some e)) (swap x)) ≡ cond b (ruling (Err Empty) none) (ruling (Ok (Some e')) (swap x))
     go true z = refl
-    go false z = let n : h ≡ 0 → ⊥ = eqb-false h 0 z in ap (λ (e : Element). ruling (Out e) (swap x)) (f (omega arith))
+    go false z = let n : h ≡ 0 → ⊥ = eqb-false h 0 z in ap (λ (e : Element). ruling (Ok (Some e)) (swap x)) (f (omega arith))
 
 -- ---- the ruling at the root
-idle-rules : (r : Request) → asks r ≡ false → (c h : ℕ) (e : Element) → rule c r h e ≡ ruling Done none
+idle-rules : (r : Request) → asks r ≡ false → (c h : ℕ) (e : Element) → rule c r h e ≡ ruling (Ok None) none
 unfolding asks rule
 idle-rules Idle z c h e = refl
 idle-rules (Push x) z c h e = absurd (true≢false z)
@@ -186,54 +181,44 @@ unfolding op_of works
 rest_in K k ws t e = subst (λ (t : Task). TaskIn K k 0 t ws) (sym e) (record { node = omega arith; sane = λ z. absurd (false≢true z); gives = tt })
 
 module _ (K top : ℕ) (ws : List ℕ) (r : Request) (t : Bool) (asked : t ≡ asks r) where
-  pub root-idle : not t ≡ true → (g : Ruled) → (g.ok ≡ true) × (g.answer ≡ Done) × (g.task ≡ record { job = job.Rest; node = 0; place = 0 }) → RulesFor K top r ws g
+  pub root-idle : not t ≡ true → (g : Ruled) → (g.answer ≡ Ok None) × (g.task ≡ record { job = job.Rest; node = 0; place = 0 }) → RulesFor K top r ws (Some g)
   root-idle y g p k f =
       let z : asks r ≡ false = sym asked ∙ not-true t y in
-      let u : rule_at K (suc k) r ws ≡ ruling Done none = idle-rules r z (room K (suc k)) (held_in K (suc k) ws) (low_elem (node_in K ws 0).places) in
-      let w = still-rules (room K (suc k)) (held_in K (suc k) ws) 0 (low_elem (node_in K ws 0).places) r Done u g p in
-      record { ok = p.0 ∙ rw z refl; answer = λ y. w.answer; work = λ y. w.work; task = λ y. rest_in K k ws g.task p.2 }
+      let u : rule_at K (suc k) r ws ≡ ruling (Ok None) none = idle-rules r z (room K (suc k)) (held_in K (suc k) ws) (low_elem (node_in K ws 0).places) in
+      let w = still-rules (room K (suc k)) (held_in K (suc k) ws) 0 (low_elem (node_in K ws 0).places) r (Ok None) u g p in
+      record { ok = rw z refl; answer = w.answer; work = w.work; task = rest_in K k ws g.task p.1 }
 
   module _ (y : not t ≡ false) where
     asked_is : (k : ℕ) → top ≡ room K k → asked_ok K (suc k) r ws ≡ sane_at K top ws 0
     asked_is k f = let z : asks r ≡ true = sym asked ∙ not-false t y in rw z (ap (λ (l : ℕ). sane_at K l ws 0) (sym f))
 
-    pub root-bad : (o : Root) → Opened K top ws o → not o.ok ≡ true → (g : Ruled) (a : Answer) → (g.ok ≡ false) × (g.answer ≡ a) × (g.task ≡ record { job = job.Rest; node = 0; place = 0 }) → RulesFor K top r ws g
-    root-bad o op n g a p k f =
-        let no : g.ok ≡ true → ⊥ = λ z. false≢true (sym p.0 ∙ z) in
-        record {
-          ok = p.0 ∙ sym (not-true o.ok n) ∙ op.ok ∙ sym (asked_is k f);
-          answer = λ z. absurd (no z);
-          work = λ z. absurd (no z);
-          task = λ z. absurd (no z);
-        }
+    pub root-bad : sane_at K top ws 0 ≡ false → (o : Option Ruled) → o ≡ None → RulesFor K top r ws o
+    root-bad bad o e = subst (RulesFor K top r ws) (sym e) (λ k f. asked_is k f ∙ bad)
 
-    module _ (o : Root) (op : Opened K top ws o) (n : not o.ok ≡ false) (g : Ruled) (rules : Rules (K + (top + top)) o.held o.place o.low r g) where
-      yes' : o.ok ≡ true
-      yes' = not-false o.ok n
-
+    module _ (o : Root) (op : Read K top ws o) (g : Ruled) (rules : Rules (K + (top + top)) o.held o.place o.low r g) where
       rule-is : (k : ℕ) → top ≡ room K k → rule (K + (top + top)) r o.held o.low ≡ rule_at K (suc k) r ws
       unfolding room
       rule-is k f =
-          rule-low (K + (top + top)) r o.held o.low (low_elem (node_in K ws 0).places) (λ h. (op.gives yes' h).1)
-          ∙ ap₂ (λ (c h : ℕ). rule c r h (low_elem (node_in K ws 0).places)) (ap (λ (l : ℕ). K + (l + l)) f) (op.held yes')
+          rule-low (K + (top + top)) r o.held o.low (low_elem (node_in K ws 0).places) (λ h. (op.gives h).1)
+          ∙ ap₂ (λ (c h : ℕ). rule c r h (low_elem (node_in K ws 0).places)) (ap (λ (l : ℕ). K + (l + l)) f) op.held
 
       by-job : (b : Job) (m p : ℕ) → m ≡ 0 → GivesAt b p o.place o.held → GivesBy b K m p ws
       by-job job.Rest m p e a = tt
       by-job (job.Put x) m p e a = tt
-      by-job job.Take m p e a = subst (λ (i : ℕ). Lowest K i p ws) (sym e) (subst (λ (j : ℕ). Lowest K 0 j ws) (sym a.0) (op.gives yes' a.1).0)
-      by-job (job.Swap x) m p e a = subst (λ (i : ℕ). Lowest K i p ws) (sym e) (subst (λ (j : ℕ). Lowest K 0 j ws) (sym a.0) (op.gives yes' a.1).0)
+      by-job job.Take m p e a = subst (λ (i : ℕ). Lowest K i p ws) (sym e) (subst (λ (j : ℕ). Lowest K 0 j ws) (sym a.0) (op.gives a.1).0)
+      by-job (job.Swap x) m p e a = subst (λ (i : ℕ). Lowest K i p ws) (sym e) (subst (λ (j : ℕ). Lowest K 0 j ws) (sym a.0) (op.gives a.1).0)
 
-      pub root-rules : RulesFor K top r ws g
+      pub root-rules : RulesFor K top r ws (Some g)
       root-rules k f =
           let at : g.task.node ≡ 0 = ap (λ (w : Work). w.node) rules.work in
           let here : 0 + g.task.node ≡ 0 = omega (arith, at) in
           record {
-            ok = rules.ok ∙ sym yes' ∙ op.ok ∙ sym (asked_is k f);
-            answer = λ z. rules.answer ∙ ap (λ (u : Ruling). u.answer) (rule-is k f);
-            work = λ z. rules.work ∙ ap (λ (u : Ruling). work u.op 0) (rule-is k f);
-            task = λ z. record {
+            ok = asked_is k f ∙ op.ok;
+            answer = rules.answer ∙ ap (λ (u : Ruling). u.answer) (rule-is k f);
+            work = rules.work ∙ ap (λ (u : Ruling). work u.op 0) (rule-is k f);
+            task = record {
               node = omega (arith, at);
-              sane = λ w. ap₂ (λ (l m : ℕ). sane_at K l ws m) (sym f) here ∙ sym op.ok ∙ yes';
+              sane = λ w. ap₂ (λ (l m : ℕ). sane_at K l ws m) (sym f) here ∙ op.ok;
               gives = by-job g.task.job (0 + g.task.node) g.task.place here rules.gives;
             };
           }

@@ -1,6 +1,6 @@
 -- What the root is read for, and what a request comes to there.
-use Rattle.std.specs.Prelude.{◌<◌, ◌≡◌, ◌≤◌}
-use Rattle.laws.specs.Prelude.{Element, List, Request, length, suc, true, ℕ}
+use Rattle.std.specs.Prelude.{◌<◌, ◌≡◌, ◌≤◌, MatchOption, Option}
+use Rattle.laws.specs.Prelude.{Element, false, List, Request, length, suc, true, ℕ}
 use Rattle.cluster_clock_model.specs.Prelude.{asked_ok, sane_at, work}
 use Rattle.cluster_model.specs.Prelude.{low_elem, node_in, room, root_held, rule, rule_at}
 use Rattle.cluster_node.specs.Leaf.{Here}
@@ -16,12 +16,16 @@ pub record RootIn (K top : ℕ) (ws : List ℕ) : Type 0 where
   pub lies : Here K 0 (length ws)
   pub small : top ≤ 5460
 
--- what the root is found to hold and, where that is anything, its lowest
-pub record Opened (K top : ℕ) (ws : List ℕ) (g : Root) : Type 0 where
-  pub ok : g.ok ≡ sane_at K top ws 0
+-- what a root in order is found to hold and, where that is anything, its lowest
+pub record Read (K top : ℕ) (ws : List ℕ) (g : Root) : Type 0 where
+  pub ok : sane_at K top ws 0 ≡ true
   pub few : g.held ≤ 16384
-  pub held : g.ok ≡ true → g.held ≡ root_held (node_in K ws 0)
-  pub gives : g.ok ≡ true → 0 < g.held → Lowest K 0 g.place ws × (g.low ≡ low_elem (node_in K ws 0).places)
+  pub held : g.held ≡ root_held (node_in K ws 0)
+  pub gives : 0 < g.held → Lowest K 0 g.place ws × (g.low ≡ low_elem (node_in K ws 0).places)
+
+-- .. and nothing where it is not in order
+abbrev pub Opened : ℕ → ℕ → List ℕ → Option Root → Type 0
+Opened K top ws o = MatchOption o (sane_at K top ws 0 ≡ false) (Read K top ws)
 
 -- a take and a swap give from this place, where h elements are held
 abbrev pub GivesAt : Job → ℕ → ℕ → ℕ → Type 0
@@ -32,17 +36,17 @@ GivesAt (Swap x) p place h = (p ≡ place) × (0 < h)
 
 -- the ruling on a request where c is the capacity, h is held, and place has the root's lowest element e
 pub record Rules (c h place : ℕ) (e : Element) (r : Request) (g : Ruled) : Type 0 where
-  pub ok : g.ok ≡ true
   pub answer : g.answer ≡ (rule c r h e).answer
   pub work : work_of g.task ≡ work (rule c r h e).op 0
   pub gives : GivesAt g.task.job g.task.place place h
 
 -- .. and at the root itself, with k levels below it
 pub record RulesRoot (K k : ℕ) (r : Request) (ws : List ℕ) (g : Ruled) : Type 0 where
-  pub ok : g.ok ≡ asked_ok K (suc k) r ws
-  pub answer : g.ok ≡ true → g.answer ≡ (rule_at K (suc k) r ws).answer
-  pub work : g.ok ≡ true → work_of g.task ≡ work (rule_at K (suc k) r ws).op 0
-  pub task : g.ok ≡ true → TaskIn K k 0 g.task ws
+  pub ok : asked_ok K (suc k) r ws ≡ true
+  pub answer : g.answer ≡ (rule_at K (suc k) r ws).answer
+  pub work : work_of g.task ≡ work (rule_at K (suc k) r ws).op 0
+  pub task : TaskIn K k 0 g.task ws
 
-abbrev pub RulesFor : ℕ → ℕ → Request → List ℕ → Ruled → Type 0
-RulesFor K top r ws g = (k : ℕ) → top ≡ room K k → RulesRoot K k r ws g
+-- .. if the root is in order, where it is read
+abbrev pub RulesFor : ℕ → ℕ → Request → List ℕ → Option Ruled → Type 0
+RulesFor K top r ws o = (k : ℕ) → top ≡ room K k → MatchOption o (asked_ok K (suc k) r ws ≡ false) (RulesRoot K k r ws)

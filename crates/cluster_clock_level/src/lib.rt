@@ -21,7 +21,7 @@ use cluster_node::{
 };
 use strip::{Element, goes_down, lower, stays};
 
-// What a level has to do in a cycle.
+// What a level has to do in a cycle. (`tree_model::Op` has the same variants; the two queues share no crate where it could stand.)
 #[derive(Clone, Copy)]
 pub enum Job {
     Rest,
@@ -133,9 +133,8 @@ pub fn stage_ok(s: &[u32], k: usize, limit: usize, a: usize, q: Stage) -> bool
     requires { LevelIn k a (length s.now) }
     ensures { StageTest k limit a q s.now result }
 {
-    let due = q.due;
     let n = q.node;
-    match due {
+    match q.due {
         Due::Nothing => true,
         Due::Put(_) => put_stage_ok(s, k, limit, a, n),
         Due::Fill(place) => wait_stage_ok(s, k, limit, a, n, place, true),
@@ -156,8 +155,7 @@ pub fn fill_gap(s: &mut [u32], k: usize, a: usize, n: usize, place: usize) -> Ta
     let r = s[at + RIGHT];
     let c = choice(s, k, 0, at);
     sink(s, at, c.right, l, r);
-    let up = c.up;
-    set_place(s, at + COUNTS + place * PLACE_WORDS, up);
+    set_place(s, at + COUNTS + place * PLACE_WORDS, c.up);
     let node = choose(c.right, n + n + 1, n + n);
     Task {
         job: Job::Take,
@@ -174,16 +172,15 @@ pub fn try_out(s: &mut [u32], k: usize, a: usize, n: usize, place: usize, x: Ele
     let m = a + n;
     let at = m * (COUNTS + k * PLACE_WORDS);
     let c = choice(s, k, 0, at);
-    let up = c.up;
     let node = choose(c.right, n + n + 1, n + n);
-    if !lower(up, x) {
+    if !lower(c.up, x) {
         return Task {
             job: Job::Rest,
             node,
             place: 0,
         };
     }
-    set_place(s, at + COUNTS + place * PLACE_WORDS, up);
+    set_place(s, at + COUNTS + place * PLACE_WORDS, c.up);
     Task {
         job: Job::Swap(x),
         node,
@@ -196,9 +193,8 @@ pub fn settle(s: &mut [u32], k: usize, a: usize, q: Stage) -> Task
     requires { Pends q.due k (a + q.node) s.old }
     ensures { (s.new ≡ filled k a q s.old) × (work_of result ≡ handed k q.due q.node a s.old) × Gives k (below a) result s.old }
 {
-    let due = q.due;
     let n = q.node;
-    match due {
+    match q.due {
         Due::Nothing => Task {
             job: Job::Rest,
             node: 0,
@@ -291,13 +287,11 @@ pub fn begin(s: &mut [u32], k: usize, a: usize, t: Task) -> Stage
     requires { Works t.job k (a + t.node) t.place s.old }
     ensures { Begins k a t.node t.place (op_of t.job) s.old s.new result }
 {
-    let job = t.job;
     let n = t.node;
-    let place = t.place;
-    match job {
+    match t.job {
         Job::Rest => no_stage(),
         Job::Put(y) => put_in(s, k, a, n, y),
-        Job::Take => take_from(s, k, a, n, place),
-        Job::Swap(x) => swap_in(s, k, a, n, place, x),
+        Job::Take => take_from(s, k, a, n, t.place),
+        Job::Swap(x) => swap_in(s, k, a, n, t.place, x),
     }
 }

@@ -9,75 +9,66 @@ ghost use Rattle.cluster_clock_level.specs.Turn.{Opened, RootIn, Rules, RulesFor
 use crate::levels::{run_levels, stages_ok};
 use crate::{Job, Task, no_stage};
 use cluster_clock_model::{ClusterCycled, ClusterDrained, Due, STAGES, Stage};
-use cluster_node::{COUNTS, PLACE_WORDS, RIGHT, elem_at, look, node_ok, wide};
-use strip::{Answer, Element, Refusal, Request, asks_something, is_refused, is_untagged};
+use cluster_node::{COUNTS, PLACE_WORDS, RIGHT, elem_at, look, node_ok};
+use strip::{
+    Answer, Element, Refusal, Request, asks_something, is_refused, is_untagged, left_as, report,
+};
 
 // ---- the root
 
-// Whether the root is in order, how many the heap holds, and the root's lowest place with its element.
+// How many the heap holds by a root that is in order, and the root's lowest place with its element.
 #[derive(Clone, Copy)]
 pub struct Root {
-    pub ok: bool,
     pub held: usize,
     pub place: usize,
     pub low: Element,
 }
 
 // The root is node 0: its counts are words 0 and 1, its places begin at word 2. One place of it may be waiting.
-pub fn open_root(s: &[u32], k: usize, top: usize) -> Root
+pub fn open_root(s: &[u32], k: usize, top: usize) -> Option<Root>
     requires { RootIn k top s.now }
     ensures { Opened k top s.now result }
 {
     let v = look(s, COUNTS, k);
-    let low = elem_at(s, COUNTS + v.low * PLACE_WORDS);
     if !node_ok(s, k - 1, top, 0, v) {
-        return Root {
-            ok: false,
-            held: 0,
-            place: 0,
-            low,
-        };
+        return None;
     }
-    let l = wide(s[0]);
-    let r = wide(s[RIGHT]);
-    Root {
-        ok: true,
-        held: v.count + (l + r),
+    Some(Root {
+        held: v.count + (s[0] as usize + s[RIGHT] as usize),
         place: v.low,
-        low,
-    }
+        low: elem_at(s, COUNTS + v.low * PLACE_WORDS),
+    })
 }
 
 // ---- a request
 
-// What a request comes to: whether the root is in order where it is read, the answer, and the root's task.
+// What a request comes to: the answer, and the root's task.
 #[derive(Clone, Copy)]
 pub struct Ruled {
-    pub ok: bool,
     pub answer: Answer,
     pub task: Task,
 }
 
 // Nothing is done at the root.
-fn still(ok: bool, answer: Answer) -> Ruled
-    ensures { (result.ok ≡ ok) × (result.answer ≡ answer) × (result.task ≡ record { job = Job.Rest; node = 0; place = 0 }) }
+fn still(answer: Answer) -> Ruled
+    ensures { (result.answer ≡ answer) × (result.task ≡ record { job = Job.Rest; node = 0; place = 0 }) }
 {
     let task = Task {
         job: Job::Rest,
         node: 0,
         place: 0,
     };
-    Ruled { ok, answer, task }
+    Ruled { answer, task }
 }
 
 fn rule_push(capacity: usize, held: usize, place: usize, low: Element, x: Element) -> Ruled
     ensures { Rules capacity held place low (Request.Push x) result }
 {
     if is_untagged(x) {
-        return still(true, Answer::Refused(Refusal::NoTag));
+        return still(Err(Refusal::NoTag));
     }
     if capacity <= held {
-        return still(true, Answer::Refused(Refusal::Full));
+        return still(Err(Refusal::Full));
     }
     let task = Task {
         job: Job::Put(x),
@@ -85,8 +76,7 @@ fn rule_push(capacity: usize, held: usize, place: usize, low: Element, x: Elemen
         place: 0,
     };
     Ruled {
-        ok: true,
-        answer: Answer::Done,
+        answer: Ok(None),
         task,
     }
 }
@@ -95,7 +85,7 @@ fn rule_pop(capacity: usize, held: usize, place: usize, low: Element) -> Ruled
     ensures { Rules capacity held place low Request.Pop result }
 {
     if held == 0 {
-        return still(true, Answer::Refused(Refusal::Empty));
+        return still(Err(Refusal::Empty));
     }
     let task = Task {
         job: Job::Take,
@@ -103,8 +93,7 @@ fn rule_pop(capacity: usize, held: usize, place: usize, low: Element) -> Ruled
         place,
     };
     Ruled {
-        ok: true,
-        answer: Answer::Out(low),
+        answer: Ok(Some(low)),
         task,
     }
 }
@@ -114,10 +103,10 @@ fn rule_replace(capacity: usize, held: usize, place: usize, low: Element, x: Ele
     ensures { Rules capacity held place low (Request.Replace x) result }
 {
     if is_untagged(x) {
-        return still(true, Answer::Refused(Refusal::NoTag));
+        return still(Err(Refusal::NoTag));
     }
     if held == 0 {
-        return still(true, Answer::Refused(Refusal::Empty));
+        return still(Err(Refusal::Empty));
     }
     let task = Task {
         job: Job::Swap(x),
@@ -125,8 +114,7 @@ fn rule_replace(capacity: usize, held: usize, place: usize, low: Element, x: Ele
         place,
     };
     Ruled {
-        ok: true,
-        answer: Answer::Out(low),
+        answer: Ok(Some(low)),
         task,
     }
 }
@@ -134,40 +122,28 @@ fn rule_replace(capacity: usize, held: usize, place: usize, low: Element, x: Ele
 fn rule(capacity: usize, held: usize, place: usize, low: Element, request: Request) -> Ruled
     ensures { Rules capacity held place low request result }
 {
+    // each arm hands over other values: a closure for the step would be no plainer
     match request {
-        Request::Idle => still(true, Answer::Done),
+        Request::Idle => still(Ok(None)),
         Request::Push(x) => rule_push(capacity, held, place, low, x),
         Request::Pop => rule_pop(capacity, held, place, low),
         Request::Replace(x) => rule_replace(capacity, held, place, low, x),
     }
 }
 
-// What the request comes to at the root. An idle cycle reads no root.
-pub fn rule_root(s: &[u32], k: usize, top: usize, request: Request) -> Ruled
+// What the request comes to at the root, if the root is in order. An idle cycle reads no root.
+pub fn rule_root(s: &[u32], k: usize, top: usize, request: Request) -> Option<Ruled>
     requires { RootIn k top s.now }
     ensures { RulesFor k top request s.now result }
 {
     if !asks_something(request) {
-        return still(true, Answer::Done);
+        return Some(still(Ok(None)));
     }
-    let g = open_root(s, k, top);
-    if !g.ok {
-        return still(false, Answer::Refused(Refusal::Damaged));
-    }
-    let low = g.low;
-    rule(k + (top + top), g.held, g.place, low, request)
+    let g = open_root(s, k, top)?;
+    Some(rule(k + (top + top), g.held, g.place, g.low, request))
 }
 
 // ---- a cycle
-
-pub fn left_as(refusal: Refusal, records: [Stage; STAGES]) -> ClusterCycled
-    ensures { (result.answer ≡ Answer.Refused refusal) × (result.records ≡ records) }
-{
-    ClusterCycled {
-        answer: Answer::Refused(refusal),
-        records,
-    }
-}
 
 // All tests come before the first write.
 pub fn cycle_shaped(
@@ -179,21 +155,18 @@ pub fn cycle_shaped(
     request: Request,
 ) -> ClusterCycled
     requires { (shape_ok k (suc below) (length store.old) ≡ true) × (top ≡ room k below) }
-    ensures { cycle_outcome result.answer store.new result.records ≡ cycled k (suc below) request records store.old }
+    ensures { cycle_outcome result.answer store.new result.state ≡ cycled k (suc below) request records store.old }
 {
-    let g = rule_root(store, k, top, request);
-    if !g.ok {
+    let Some(g) = rule_root(store, k, top, request) else {
         return left_as(Refusal::Damaged, records);
-    }
+    };
     if !stages_ok(store, k, below, top, records) {
         return left_as(Refusal::Damaged, records);
     }
-    let answer = g.answer;
-    let task = g.task;
-    let left = run_levels(store, k, below, task, records);
+    let left = run_levels(store, k, below, g.task, records);
     ClusterCycled {
-        answer,
-        records: left,
+        answer: g.answer,
+        state: left,
     }
 }
 
@@ -202,12 +175,7 @@ pub fn cycle_shaped(
 fn is_nothing(due: Due) -> bool
     ensures { result ≡ is_nothing due }
 {
-    match due {
-        Due::Nothing => true,
-        Due::Put(_) => false,
-        Due::Fill(_) => false,
-        Due::Swap(_, _) => false,
-    }
+    matches!(due, Due::Nothing)
 }
 
 // Whether nothing is pending in the first so many records.
@@ -216,12 +184,8 @@ pub fn is_quiet(count: usize, records: [Stage; STAGES]) -> bool
     ensures { result ≡ quiet count records 0 }
 {
     let mut ok = true;
-    let mut i = 0;
-    while i < count {
-        let q = records[i];
-        let due = q.due;
-        ok = ok & is_nothing(due);
-        i += 1;
+    for i in 0..count {
+        ok &= is_nothing(records[i].due);
     }
     ok
 }
@@ -231,17 +195,6 @@ pub fn fresh_records() -> [Stage; STAGES]
     ensures { result ≡ fresh }
 {
     [no_stage(); STAGES]
-}
-
-pub fn report(answer: Answer, cycles: usize, left: bool, records: [Stage; STAGES]) -> ClusterDrained
-    ensures { (result.answer ≡ answer) × (result.cycles ≡ cycles) × (result.left ≡ left) × (result.records ≡ records) }
-{
-    ClusterDrained {
-        answer,
-        cycles,
-        left,
-        records,
-    }
 }
 
 // Each cycle leaves one more level with nothing to do, so that no more are run than there are levels from 2, whatever the budget.
@@ -254,23 +207,19 @@ pub fn drain_shaped(
     budget: usize,
 ) -> ClusterDrained
     requires { (shape_ok k (suc below) (length store.old) ≡ true) × (top ≡ room k below) }
-    ensures { drain_outcome result.answer result.cycles result.left store.new result.records ≡ drains k (suc below) budget records store.old }
+    ensures { drain_outcome result.answer result.cycles result.left store.new result.state ≡ drains k (suc below) budget records store.old }
 {
     let mut pending = records;
-    let mut run = 0;
-    while run < budget {
+    for run in 0..budget {
         if is_quiet(below, pending) {
-            return report(Answer::Done, run, false, pending);
+            return report(Ok(None), run, false, pending);
         }
         let c = cycle_shaped(store, k, below, top, pending, Request::Idle);
-        let answer = c.answer;
-        let next = c.records;
-        if is_refused(answer) {
-            return report(answer, run, true, next);
+        if is_refused(c.answer) {
+            return report(c.answer, run, true, c.state);
         }
-        pending = next;
-        run += 1;
+        pending = c.state;
     }
     let quiet = is_quiet(below, pending);
-    report(Answer::Done, run, !quiet, pending)
+    report(Ok(None), budget, !quiet, pending)
 }

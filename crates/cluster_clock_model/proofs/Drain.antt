@@ -1,5 +1,5 @@
 -- A drain is so many idle cycles. Each leaves one more record of nothing, from the top, so that levels less one are enough.
-use Rattle.laws.specs.Prelude.{Answer, BadShape, Done, Exactly, Idle, List, Refusal, Refused, ◌+◌, ◌<◌, ◌∙◌, ◌≡◌, ◌≤◌, and-true, ap, arith, false, get_or-set_same, inl, left_behind, length, length-set, not, not-suc-le-zero, number_of, pred, refl, refusal_number, set, subst, suc, sym, true, zero, ℕ}
+use Rattle.laws.specs.Prelude.{Answer, BadShape, Exactly, Idle, List, Refusal, ◌+◌, ◌<◌, ◌∙◌, ◌≡◌, ◌≤◌, and-true, ap, arith, false, get_or-set_same, inl, left_behind, length, length-set, not, not-suc-le-zero, number_of, pred, refl, refusal_number, set, subst, suc, sym, true, zero, ℕ, Ok, None, Err}
 use Rattle.cluster_clock_model.proofs.Exactly.{ticks}
 use Rattle.cluster_clock_model.proofs.Seen.{pass-others, pass-records, set-later}
 use Rattle.cluster_clock_model.specs.Prelude.{DrainOutcome, Due, Jams, Machine, Nothing, Stage, Work, begins, below, clock, cycle_queue, cycle_run, cycled, drain_from, drain_left, drain_outcome, drain_refusals, drains, filled, handed, idles, is_nothing, level_stage, level_words, loaded, machine, no_stage, pass, pending, quiet, stage_at, work}
@@ -30,7 +30,7 @@ module _ (K levels : ℕ) where
     drains-as =
         drain.drains-shown (cycle_queue K levels) (clock K levels).pending shown (λ b n x. drain_from K levels b n x.records x.words) (λ n x. refl) (λ b n x. refl) ((clock K levels).shape_ok x) b x
 
-    pub drain-bad : shape_ok K levels (length ws) ≡ false → drains K levels b rs ws ≡ drain_outcome (Refused BadShape) 0 false ws rs
+    pub drain-bad : shape_ok K levels (length ws) ≡ false → drains K levels b rs ws ≡ drain_outcome (Err BadShape) 0 false ws rs
     unfolding drains
     drain-bad e = rw e
 
@@ -50,7 +50,7 @@ module _ (K levels : ℕ) where
     drain-ran = rw drains-as (drain.drain-ran (ticks K levels) b x)
 
     -- KIND: a drain that is not refused is done
-    pub drain-kind : number_of (drains K levels b rs ws).answer ≡ 0 → (drains K levels b rs ws).answer ≡ Done
+    pub drain-kind : number_of (drains K levels b rs ws).answer ≡ 0 → (drains K levels b rs ws).answer ≡ Ok None
     drain-kind = rw drains-as (drain.drain-kind (ticks K levels) b x)
 
     -- DRAIN-STOPS: the cycle after exactly so many idle cycles is the one that meets damage

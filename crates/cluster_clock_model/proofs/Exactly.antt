@@ -1,5 +1,5 @@
 -- Every refusal of a cycle is given exactly for its cause, and leaves behind what the table says.
-use Rattle.laws.specs.Prelude.{Answer, BadShape, Bool, Damaged, Done, Exactly, Fails, Held, Idle, List, Pop, Push, Refusal, Refused, Replace, Request, Unknown, ◌&&◌, ◌*◌, ◌+◌, ◌||◌, ◌∙◌, ◌≡◌, ◌≤◌, and_left, and_right, and-true, ap, arith, asks, count_number, eqb, eqb-false, eqb-true, fails-and, fails-leb, fails-or, fails-true, false, leb, leb-true, left_behind, length, ltb, means-off, not, not-suc-le-zero, number_of, pred, refl, refusal_number, rung, runs_idle, stop, suc, sym, true, true≢false, zero, ℕ}
+use Rattle.laws.specs.Prelude.{Answer, BadShape, Bool, Damaged, Exactly, Fails, Idle, List, Pop, Push, Refusal, Replace, Request, ◌&&◌, ◌*◌, ◌+◌, ◌||◌, ◌∙◌, ◌≡◌, ◌≤◌, and_left, and_right, and-true, ap, arith, asks, count_number, eqb, eqb-false, eqb-true, fails-and, fails-leb, fails-or, fails-true, false, leb, leb-true, left_behind, length, ltb, means-off, not, not-suc-le-zero, number_of, pred, refl, refusal_number, rung, runs_idle, stop, suc, sym, true, true≢false, zero, ℕ, Ok, Err, None}
 use Rattle.promise.specs.Prelude.{Barred, IsPush, Kind, Outcome, Step, always, asks-fails, bars, cycle_left as clock-left, cycling, decided-either, decided-same, ends, last_table, left, needs, step}
 use Rattle.cluster_clock_model.proofs.Seen.{pass-length}
 use Rattle.cluster_clock_model.specs.Prelude.{ChildTorn, CycleDamage, CycleOutcome, Due, Fill, Machine, NodeTorn, Nothing, Put, Stage, StageTorn, StagesTorn, Swap, WaitTorn, asked_ok, below, clock, clock_cleared, clock_held, cycle_left, cycle_outcome, cycle_queue, cycle_refusals, cycle_run, cycled, fresh, gives_ok, held_refusals, is_gap, machine, sane, sane_at, stage_at, stage_ok, stages_ok, wait_ok}
@@ -87,11 +87,11 @@ module _ (K levels : ℕ) (r : Request) (rs : List Stage) (ws : List ℕ) where
   abbrev pub sound : Bool
   sound = asked_ok K levels r ws && stages_ok K (pred levels) 0 0 rs ws
 
-  pub cycled-bad : shape_ok K levels (length ws) ≡ false → cycled K levels r rs ws ≡ cycle_outcome (Refused BadShape) ws rs
+  pub cycled-bad : shape_ok K levels (length ws) ≡ false → cycled K levels r rs ws ≡ cycle_outcome (Err BadShape) ws rs
   unfolding cycled
   cycled-bad e = rw e
 
-  pub cycled-damaged : shape_ok K levels (length ws) ≡ true → sound ≡ false → cycled K levels r rs ws ≡ cycle_outcome (Refused Damaged) ws rs
+  pub cycled-damaged : shape_ok K levels (length ws) ≡ true → sound ≡ false → cycled K levels r rs ws ≡ cycle_outcome (Err Damaged) ws rs
   unfolding cycled
   cycled-damaged e f = rw (e, f)
 
@@ -100,11 +100,11 @@ module _ (K levels : ℕ) (r : Request) (rs : List Stage) (ws : List ℕ) where
   cycled-fine e f = rw (e, f)
 
   -- what is so of a cycle refused for the shape or for damage, and of one that ran, is so of the cycle
-  pub cycled-either : (P : CycleOutcome → Type 0) → P (cycle_outcome (Refused BadShape) ws rs) → P (cycle_outcome (Refused Damaged) ws rs)
+  pub cycled-either : (P : CycleOutcome → Type 0) → P (cycle_outcome (Err BadShape) ws rs) → P (cycle_outcome (Err Damaged) ws rs)
       → (shape_ok K levels (length ws) ≡ true → sound ≡ true → P (cycle_run K levels g rs ws)) → P (cycled K levels r rs ws)
   unfolding cycled
   cycled-either P bad damaged good =
-      decided-either (λ n. cycle_outcome (Refused n) ws rs) P
+      decided-either (λ n. cycle_outcome (Err n) ws rs) P
       (needs BadShape (shape_ok K levels (length ws)) (Shape K levels (length ws)) (bars Damaged sound (CycleDamage K levels r rs ws) ends))
       (cycle_run K levels g rs ws) (bad, (damaged, tt)) (λ c. good c.0 c.1.0)
 
@@ -160,10 +160,10 @@ module _ (K levels : ℕ) where
   same : (r : Request) (x : Machine) → cycle_queue K levels r x ≡ cycling (clock K levels) r x
   unfolding cycled cycle_run rule
   same r x =
-      decided-same as_step (λ (o : Outcome Machine). step o.answer o.words) (λ n. cycle_outcome (Refused n) x.words x.records) (left x)
+      decided-same as_step (λ (o : Outcome Machine). step o.answer o.words) (λ n. cycle_outcome (Err n) x.words x.records) (left x)
       (needs BadShape (shape_ok K levels (length x.words)) (Unit {0}) (bars Damaged (sound K levels r x.records x.words) (Unit {0}) ends)) _ _ (λ n. refl)
       (decided-same (λ (g : Ruling). as_step (cycle_run K levels g x.records x.words)) (λ (g : calls.Ruling Request). step g.answer ((clock K levels).moves g.op x))
-      (λ n. ruling (Refused n) none) (λ n. calls.ruling (Refused n) Idle) (last_table r (held_in K levels x.words) (room K levels)) _ _ (λ n. refl) refl)
+      (λ n. ruling (Err n) none) (λ n. calls.ruling (Err n) Idle) (last_table r (held_in K levels x.words) (room K levels)) _ _ (λ n. refl) refl)
 
   push-root : (r : Request) (ws : List ℕ) → IsPush r → asked_ok K levels r ws ≡ true → sane_at K (room K (pred levels)) ws 0 ≡ true
   unfolding asks
@@ -219,21 +219,21 @@ module _ (K levels : ℕ) (r : Request) (rs : List Stage) (ws : List ℕ) where
 
 -- ---- held and clear
 module _ (K levels : ℕ) (ws : List ℕ) where
-  pub held-fine : Shape K levels (length ws) → sane_at K (room K (pred levels)) ws 0 ≡ true → clock_held K levels ws ≡ Held (held_in K levels ws)
+  pub held-fine : Shape K levels (length ws) → sane_at K (room K (pred levels)) ws 0 ≡ true → clock_held K levels ws ≡ Ok (held_in K levels ws)
   unfolding clock_held
   held-fine sh o = rw (is-shape K levels (length ws) sh, o)
 
-  pub exactly-held : Exactly count_number Unknown (clock_held K levels ws) (held_refusals K levels ws)
+  pub exactly-held : Exactly count_number Err (clock_held K levels ws) (held_refusals K levels ws)
   unfolding clock_held
   exactly-held = clocks.exactly-held (ticks K levels) (machine fresh ws)
 
   -- CLEAR: zeros, and nothing pending, whatever records are handed over; refused it leaves everything, the records too
-  pub clear-taken : (rs : List Stage) → Shape K levels (length ws) → clock_cleared K levels rs ws ≡ cycle_outcome Done (start K levels ws) fresh
+  pub clear-taken : (rs : List Stage) → Shape K levels (length ws) → clock_cleared K levels rs ws ≡ cycle_outcome (Ok None) (start K levels ws) fresh
   unfolding clock_cleared
   clear-taken rs sh =
       let e = is-shape K levels (length ws) sh in
-      rw e (ap (λ (o : Outcome (List ℕ)). cycle_outcome Done o.words fresh) (sym (cleared-fine K levels ws e)))
+      rw e (ap (λ (o : Outcome (List ℕ)). cycle_outcome (Ok None) o.words fresh) (sym (cleared-fine K levels ws e)))
 
-  pub clear-stands : (rs : List Stage) → (Shape K levels (length ws) → ⊥) → clock_cleared K levels rs ws ≡ cycle_outcome (Refused BadShape) ws rs
+  pub clear-stands : (rs : List Stage) → (Shape K levels (length ws) → ⊥) → clock_cleared K levels rs ws ≡ cycle_outcome (Err BadShape) ws rs
   unfolding clock_cleared
   clear-stands rs bad = rw (means-off (shape-means K levels (length ws)) bad)

@@ -1,6 +1,6 @@
 -- The promises: from a cleared machine, over any list of cycles, nothing is damaged and nothing too soon; in the middle of any work the places and the pending puts
 -- hold exactly what went in and has not come out, and what comes out has the lowest rank; and a drain leaves a sound heap.
-use Rattle.laws.specs.Prelude.{Bool, Element, Idle, List, Out, Replace, Request, ◌+◌, ◌∙◌, ◌≡◌, ◌≤◌, ◌⊎◌, ap, arith, count_number, count_of, false, inl, length, lt-ltb, map, means-off, not, not-suc-le-zero, number_of, pred, refl, subst, suc, sym, true, true≢false, zero, ℕ}
+use Rattle.laws.specs.Prelude.{Bool, Element, Idle, List, Replace, Request, ◌+◌, ◌∙◌, ◌≡◌, ◌≤◌, ◌⊎◌, ap, arith, count_number, count_of, false, inl, length, lt-ltb, map, means-off, not, not-suc-le-zero, number_of, pred, refl, subst, suc, sym, true, true≢false, zero, ℕ, Ok, Some}
 use Rattle.promise.specs.Prelude.{Drained, Holds, Least, PopThenPush, SoleCall as Call, Tagged, Untagged, all_brought, all_given, always, asked, brought, calls, cycle, drain, drained_by, given, least-same, leaves-keep, outcome, step, tagged-by, triple, untagged-means}
 use Rattle.cluster_clock_model.proofs.Drain.{drain-state, drains-as, idles-quiet}
 use Rattle.cluster_clock_model.proofs.Exactly.{barred, held-fine, root-limit}
@@ -50,7 +50,7 @@ module _ (K k : ℕ) where
   kept_gives x kept r = clocks.cycle-least (is-clock K k) lowest r x kept
 
   -- .. and the lowest of the root as it stood at the cycle's start
-  pub kept-lowest : (x : Machine) → Kept K k x → (r : Request) (e : Element) → (cycled K (suc k) r x.records x.words).answer ≡ Out e
+  pub kept-lowest : (x : Machine) → Kept K k x → (r : Request) (e : Element) → (cycled K (suc k) r x.records x.words).answer ≡ Ok (Some e)
       → IsLowest (node_in K x.words 0).places (low (node_in K x.words 0).places) e
   kept-lowest x kept r e q =
       let ps : List Place = (node_in K x.words 0).places in
@@ -159,7 +159,7 @@ module _ (K : ℕ) (ws : List ℕ) (rs : List Request) where
 
   -- LOWER TAG: what a cycle gives is the lowest of the root as it stood at the cycle's start: of that node's equal ranks the lower tag, of equal rank and tag the
   -- first place (02 [12])
-  pub lower-tag : (levels : ℕ) → Shape K levels (length ws) → (r : Request) (e : Element) → (cycled K levels r (ran K levels rs ws).records (ran K levels rs ws).words).answer ≡ Out e
+  pub lower-tag : (levels : ℕ) → Shape K levels (length ws) → (r : Request) (e : Element) → (cycled K levels r (ran K levels rs ws).records (ran K levels rs ws).words).answer ≡ Ok (Some e)
       → IsLowest (node_in K (ran K levels rs ws).words 0).places (low (node_in K (ran K levels rs ws).words 0).places) e
   lower-tag zero sh r e q = absurd (not-suc-le-zero sh.some)
   lower-tag (suc k) sh r e q = kept-lowest K k (ran K (suc k) rs ws) (ran-kept k sh) r e q

@@ -1,5 +1,5 @@
 -- What a cycle and a drain never read: two machines that are alike are answered the same, and are alike again.
-use Rattle.laws.specs.Prelude.{Answer, Bool, Done, Element, Idle, List, Request, ◌&&◌, ◌+◌, ◌<◌, ◌||◌, ◌∙◌, ◌≡◌, ◌≤◌, and_right, ap, ap₂, arith, asks, cond, eqb, false, false≢true, get_or-set_same, inl, is_refused, length, length-set, ltb, ltb-false, ltb-true, not, not-suc-le-zero, pred, refl, set, subst, suc, sym, true, zero, ℕ}
+use Rattle.laws.specs.Prelude.{Answer, Bool, Element, Idle, List, Request, ◌&&◌, ◌+◌, ◌<◌, ◌||◌, ◌∙◌, ◌≡◌, ◌≤◌, and_right, ap, ap₂, arith, asks, cond, eqb, false, false≢true, get_or-set_same, inl, is_refused, length, length-set, ltb, ltb-false, ltb-true, not, not-suc-le-zero, pred, refl, set, subst, suc, sym, true, zero, ℕ, Ok, None}
 use Rattle.cluster_clock_model.proofs.Exactly.{sound, cycled-damaged, cycled-either, cycled-fine, cycled-length}
 use Rattle.cluster_clock_model.proofs.Level.{Has, like-filled, like-worked, same-begins}
 use Rattle.cluster_clock_model.proofs.Passes.{stages-ranged}
@@ -341,7 +341,7 @@ module _ (K levels : ℕ) where
       on z = drain_from K levels b (suc n) (next z).next.records (next z).next.words
 
       rest : Machine → DrainOutcome
-      rest z = drain_outcome Done n false z.words z.records
+      rest z = drain_outcome (Ok None) n false z.words z.records
 
       go : (p t : Bool) → SameDrain K levels (on x) (on y) → SameDrain K levels (cond p (cond t (jam x) (on x)) (rest x)) (cond p (cond t (jam y) (on y)) (rest y))
       go true true ih = (u.0, refl, refl, u.1)

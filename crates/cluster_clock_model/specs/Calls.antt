@@ -1,6 +1,6 @@
 -- The calls of the clocked cluster heap, each a total function of K, levels, records and words to what it answers and leaves.
 use Rattle.std.specs.Prelude.{◌&&◌, ◌||◌}
-use Rattle.laws.specs.Prelude.{Answer, BadShape, Bool, Count, Damaged, Done, Held, Idle, List, Refused, Request, Unknown, asks, cond, false, is_refused, length, not, pred, replicate, suc, true, zero, ℕ}
+use Rattle.laws.specs.Prelude.{Answer, BadShape, Bool, Damaged, Idle, List, Request, asks, cond, false, is_refused, length, not, pred, replicate, suc, true, zero, ℕ, Result, Refusal, Ok, Err, None}
 use Rattle.cluster_clock_model.specs.declared.Due.{Due}
 use Rattle.cluster_clock_model.specs.declared.Due.TheVariants.{Fill, Nothing, Put, Swap}
 use Rattle.cluster_clock_model.specs.declared.Stage.{Stage}
@@ -63,8 +63,8 @@ module _ (K levels : ℕ) where
   unfoldable pub cycled : Request → List Stage → List ℕ → CycleOutcome
   cycled r rs ws =
       cond (shape_ok K levels (length ws))
-      (cond (asked_ok r ws && stages_ok K (pred levels) 0 0 rs ws) (cycle_run (rule_at K levels r ws) rs ws) (cycle_outcome (Refused Damaged) ws rs))
-      (cycle_outcome (Refused BadShape) ws rs)
+      (cond (asked_ok r ws && stages_ok K (pred levels) 0 0 rs ws) (cycle_run (rule_at K levels r ws) rs ws) (cycle_outcome (Err Damaged) ws rs))
+      (cycle_outcome (Err BadShape) ws rs)
 
   -- ---- drain
   -- is work pending? Records past the last level are not counted
@@ -74,22 +74,22 @@ module _ (K levels : ℕ) where
   -- "runs idle cycles until nothing is pending or the budget is spent"; "stops at 2 and reports the cycles already run, work left". A refused cycle has
   -- left everything
   unfoldable pub drain_from : ℕ → ℕ → List Stage → List ℕ → DrainOutcome
-  drain_from zero n rs ws = drain_outcome Done n (pending rs) ws rs
+  drain_from zero n rs ws = drain_outcome (Ok None) n (pending rs) ws rs
   drain_from (suc b) n rs ws =
       let o = cycled Idle rs ws in
       cond (pending rs)
       (cond (is_refused o.answer) (drain_outcome o.answer n true o.words o.records) (drain_from b (suc n) o.records o.words))
-      (drain_outcome Done n false ws rs)
+      (drain_outcome (Ok None) n false ws rs)
 
   -- "at 1 it reports 0 and no work left"
   unfoldable pub drains : ℕ → List Stage → List ℕ → DrainOutcome
-  drains budget rs ws = cond (shape_ok K levels (length ws)) (drain_from budget 0 rs ws) (drain_outcome (Refused BadShape) 0 false ws rs)
+  drains budget rs ws = cond (shape_ok K levels (length ws)) (drain_from budget 0 rs ws) (drain_outcome (Err BadShape) 0 false ws rs)
 
   -- ---- clear and held
   -- "Clear writes zeros", and nothing is pending; refused it leaves everything, the records that it is handed too
   unfoldable pub clock_cleared : List Stage → List ℕ → CycleOutcome
-  clock_cleared rs ws = cond (shape_ok K levels (length ws)) (cycle_outcome Done (wipe (extent K levels 1) ws) fresh) (cycle_outcome (Refused BadShape) ws rs)
+  clock_cleared rs ws = cond (shape_ok K levels (length ws)) (cycle_outcome (Ok None) (wipe (extent K levels 1) ws) fresh) (cycle_outcome (Err BadShape) ws rs)
 
   -- held reads the root alone, in the middle of any work too
-  unfoldable pub clock_held : List ℕ → Count
-  clock_held ws = cond (shape_ok K levels (length ws)) (cond (sane_at K (room K (pred levels)) ws 0) (Held (held_in K levels ws)) (Unknown Damaged)) (Unknown BadShape)
+  unfoldable pub clock_held : List ℕ → Result ℕ Refusal
+  clock_held ws = cond (shape_ok K levels (length ws)) (cond (sane_at K (room K (pred levels)) ws 0) (Ok (held_in K levels ws)) (Err Damaged)) (Err BadShape)

@@ -1,7 +1,7 @@
 -- Worked machines in the middle of their work, with K = 2: the records, each as six numbers (kind, node, place, rank, tag, length), and the words. At levels 2,
 -- 5/50, 3/30, 8/80, 1/10 pushed, then a pop, a push, a replace; at levels 3 with two operations in flight.
 use Rattle.std.specs.Prelude.{◌++◌, ◌∷◌}
-use Rattle.laws.specs.Prelude.{Answer, Done, Empty, Idle, List, NoTag, Out, Pop, Push, Refused, Replace, Request, [], element, replicate, ℕ}
+use Rattle.laws.specs.Prelude.{Answer, Empty, Idle, List, NoTag, Pop, Push, Replace, Request, [], element, replicate, ℕ, Ok, None, Some, Err}
 use Rattle.cluster_clock_model.specs.Promise.{ran, cycle_answers}
 use Rattle.cluster_clock_model.specs.Stage.{stage_at, stage_numbers}
 
@@ -77,7 +77,7 @@ unfoldable pub case_flight_answers : List Answer
 case_flight_answers = cycle_answers 2 3 (eight_pushes ++ (Pop ∷ Replace (element 9 90 900) ∷ Push (element 2 25 250) ∷ Pop ∷ Pop ∷ Pop ∷ Replace (element 1 1 10) ∷ Pop ∷ Pop ∷ Pop ∷ Pop ∷ Pop ∷ Pop ∷ Push (element 1 0 0) ∷ [])) (replicate 70 0)
 
 abbrev pub case_flight_answers_say : List Answer
-case_flight_answers_say = Done ∷ Done ∷ Done ∷ Done ∷ Done ∷ Done ∷ Done ∷ Done ∷ Out (element 1 10 100) ∷ Out (element 2 20 200) ∷ Done ∷ Out (element 2 25 250) ∷ Out (element 3 30 300) ∷ Out (element 4 40 400) ∷ Out (element 5 50 500) ∷ Out (element 1 1 10) ∷ Out (element 6 60 600) ∷ Out (element 7 70 700) ∷ Out (element 8 80 800) ∷ Out (element 9 90 900) ∷ Refused Empty ∷ Refused NoTag ∷ []
+case_flight_answers_say = (Ok None) ∷ (Ok None) ∷ (Ok None) ∷ (Ok None) ∷ (Ok None) ∷ (Ok None) ∷ (Ok None) ∷ (Ok None) ∷ Ok (Some (element 1 10 100)) ∷ Ok (Some (element 2 20 200)) ∷ (Ok None) ∷ Ok (Some (element 2 25 250)) ∷ Ok (Some (element 3 30 300)) ∷ Ok (Some (element 4 40 400)) ∷ Ok (Some (element 5 50 500)) ∷ Ok (Some (element 1 1 10)) ∷ Ok (Some (element 6 60 600)) ∷ Ok (Some (element 7 70 700)) ∷ Ok (Some (element 8 80 800)) ∷ Ok (Some (element 9 90 900)) ∷ Err Empty ∷ Err NoTag ∷ []
 
 -- equal ranks, two pops in a row: 3/20 is lifted in the cycle in which 3/30 leaves. The place that gives is the one chosen at the cycle's start, before the gap is
 -- filled; one operation at a time would give 3/20 first
@@ -94,7 +94,7 @@ unfoldable pub case_tie_answers : List Answer
 case_tie_answers = cycle_answers 2 2 (tie_cycles ++ (Pop ∷ Pop ∷ [])) (replicate 30 0)
 
 abbrev pub case_tie_answers_say : List Answer
-case_tie_answers_say = Done ∷ Done ∷ Done ∷ Out (element 1 10 100) ∷ Out (element 3 30 300) ∷ Out (element 3 20 200) ∷ Refused Empty ∷ []
+case_tie_answers_say = (Ok None) ∷ (Ok None) ∷ (Ok None) ∷ Ok (Some (element 1 10 100)) ∷ Ok (Some (element 3 30 300)) ∷ Ok (Some (element 3 20 200)) ∷ Err Empty ∷ []
 
 -- K = 3, levels 2: a gap made in one cycle is filled in the next, also where that cycle makes another. The record of level 2, and the words
 abbrev pub stood_of_three : List Request → List ℕ

@@ -1,7 +1,7 @@
 -- What is promised of the clocked cluster heap is said in these words: the machine over a list of cycles, the causes of refusal, each level's one step, and what
 -- is held in the middle of any work.
 use Rattle.std.specs.Prelude.{◌&&◌, ◌*◌, ◌+◌, ◌<◌, ◌≡◌, ◌≤◌, ◌⊎◌}
-use Rattle.laws.specs.Prelude.{Answer, BadShape, Bool, Damaged, Element, Idle, Ladder, List, NoTag, Refusal, Refused, Request, cond, false, fine, length, ltb, not, pred, replicate, rung, runs_idle, stop, suc, sum_to, zero, ℕ}
+use Rattle.laws.specs.Prelude.{Answer, BadShape, Bool, Damaged, Element, Idle, Ladder, List, NoTag, Refusal, Request, cond, false, fine, length, ltb, not, pred, replicate, rung, runs_idle, stop, suc, sum_to, zero, ℕ, Err}
 use Rattle.promise.specs.Prelude.{Asks, Clock, SoleCall as Call, Step, Stuck as StuckAt, Untagged, answers, cycle, drain, grants, hit, is_bad_shape, last_table, leaves, limits, step}
 use Rattle.cluster_clock_model.specs.declared.Due.{Due}
 use Rattle.cluster_clock_model.specs.declared.Due.TheVariants.{Fill, Nothing, Put, Swap}
@@ -112,7 +112,7 @@ cycle_refusals K levels r rs ws =
 abbrev pub cycle_left : ℕ → ℕ → List Stage → List ℕ → Refusal → CycleOutcome
 cycle_left K levels rs ws n =
     let x = cond {A = Machine} (runs_idle n) (idles K levels 1 (machine rs ws)) (machine rs ws) in
-    cycle_outcome (Refused n) x.words x.records
+    cycle_outcome (Err n) x.words x.records
 
 -- .. of held, which reads the root alone
 abbrev pub held_refusals : ℕ → ℕ → List ℕ → Ladder Refusal
@@ -129,7 +129,7 @@ drain_refusals K levels budget rs ws = rung BadShape (Shape K levels (length ws)
 abbrev pub drain_left : ℕ → ℕ → ℕ → List Stage → List ℕ → Refusal → DrainOutcome
 drain_left K levels cycles rs ws n =
     let ran = cond (is_bad_shape n) 0 cycles in
-    drain_outcome (Refused n) ran (not (is_bad_shape n)) (idles K levels ran (machine rs ws)).words (idles K levels ran (machine rs ws)).records
+    drain_outcome (Err n) ran (not (is_bad_shape n)) (idles K levels ran (machine rs ws)).words (idles K levels ran (machine rs ws)).records
 
 -- ---- one step: what a cycle with no damage does to each level and its record, by what stood at its start. The topmost level is 0
 -- the number of the first node of level i

@@ -1,9 +1,10 @@
 // The types of the clocked cluster heap that go by value. Its rules are in specs/, the theorems in proofs/.
 #![tactic(auto)]
 
-use strip::{Answer, Element};
+use strip::{Cycled, Drained, Element};
 
 // How many records there are: one for each level from 2, as many as two places a node need, that have the most levels, 11.
+// They stand in an array, with the levels beside it: the card has no heap.
 pub const STAGES: usize = 10;
 
 // What is left to be done between a level and the next: put onto a node of the next level; fill a place of a node of this one, that is a gap; or the element
@@ -24,17 +25,7 @@ pub struct Stage {
 }
 
 // What a cycle answers, and the records that it leaves, that of level 2 first.
-#[derive(Clone, Copy)]
-pub struct ClusterCycled {
-    pub answer: Answer,
-    pub records: [Stage; STAGES],
-}
+pub type ClusterCycled = Cycled<[Stage; STAGES]>;
 
 // What a drain reports: done or a refusal, the number of cycles run, whether work is left, and the records that it leaves.
-#[derive(Clone, Copy)]
-pub struct ClusterDrained {
-    pub answer: Answer,
-    pub cycles: usize,
-    pub left: bool,
-    pub records: [Stage; STAGES],
-}
+pub type ClusterDrained = Drained<[Stage; STAGES]>;

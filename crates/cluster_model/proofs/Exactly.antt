@@ -1,5 +1,5 @@
 -- Every refusal is given exactly for its cause.
-use Rattle.laws.specs.Prelude.{BadShape, Bool, Damaged, Done, Exactly, Idle, List, Pop, Push, Refusal, Refused, Replace, Request, Unknown, ◌&&◌, ◌*◌, ◌+◌, ◌||◌, ◌≡◌, ◌≤◌, and_left, and_right, arith, count_number, false, inr, leb, leb-true, length, not-suc-le-zero, number_of, pred, refl, refusal_number, suc, true, zero, ℕ}
+use Rattle.laws.specs.Prelude.{BadShape, Bool, Damaged, Exactly, Idle, List, Pop, Push, Refusal, Replace, Request, ◌&&◌, ◌*◌, ◌+◌, ◌||◌, ◌≡◌, ◌≤◌, and_left, and_right, arith, count_number, false, inr, leb, leb-true, length, not-suc-le-zero, number_of, pred, refl, refusal_number, suc, true, zero, ℕ, Err, Ok, None}
 use Rattle.promise.proofs.Calls as calls
 use Rattle.promise.proofs.Calls.{last-guards, last-told, said, Tested}
 use Rattle.promise.specs.Prelude.{Barred, Kind, always, left}
@@ -32,15 +32,15 @@ module _ (K levels : ℕ) (r : Request) (ws : List ℕ) where
   abbrev pub g : Ruling
   g = rule_at K levels r ws
 
-  pub called-bad : shape_ok K levels (length ws) ≡ false → called K levels r ws ≡ outcome (Refused BadShape) ws
+  pub called-bad : shape_ok K levels (length ws) ≡ false → called K levels r ws ≡ outcome (Err BadShape) ws
   unfolding called
   called-bad s = rw s
 
-  pub called-root : shape_ok K levels (length ws) ≡ true → root_ok K levels ws ≡ false → called K levels r ws ≡ outcome (Refused Damaged) ws
+  pub called-root : shape_ok K levels (length ws) ≡ true → root_ok K levels ws ≡ false → called K levels r ws ≡ outcome (Err Damaged) ws
   unfolding called
   called-root s o = rw (s, o)
 
-  pub called-way : shape_ok K levels (length ws) ≡ true → root_ok K levels ws ≡ true → way_ok K levels g.op 0 ws ≡ false → called K levels r ws ≡ outcome (Refused Damaged) ws
+  pub called-way : shape_ok K levels (length ws) ≡ true → root_ok K levels ws ≡ true → way_ok K levels g.op 0 ws ≡ false → called K levels r ws ≡ outcome (Err Damaged) ws
   unfolding called rule
   called-way s o w = rw (s, o, w)
 
@@ -50,7 +50,7 @@ module _ (K levels : ℕ) (r : Request) (ws : List ℕ) where
   called-fine s o w = rw (s, o, w)
 
   -- what is so of a refused call and of one that is done is so of the call
-  pub called-either : (P : Outcome → Type 0) → ((x : Refusal) → P (outcome (Refused x) ws))
+  pub called-either : (P : Outcome → Type 0) → ((x : Refusal) → P (outcome (Err x) ws))
       → (shape_ok K levels (length ws) ≡ true → root_ok K levels ws ≡ true → way_ok K levels g.op 0 ws ≡ true → P (outcome g.answer (run_words K levels g.op 0 ws)))
       → P (called K levels r ws)
   unfolding called rule
@@ -90,7 +90,7 @@ module _ (K levels : ℕ) (ws : List ℕ) where
   unfolding called
   stands r = calls.stands (tested K levels) r ws
 
-  pub cleared-fine : shape_ok K levels (length ws) ≡ true → cleared K levels ws ≡ outcome Done (wipe (extent K levels 1) ws)
+  pub cleared-fine : shape_ok K levels (length ws) ≡ true → cleared K levels ws ≡ outcome (Ok None) (wipe (extent K levels 1) ws)
   unfolding cleared
   cleared-fine e = rw e
 
@@ -98,7 +98,7 @@ module _ (K levels : ℕ) (ws : List ℕ) where
   unfolding cleared
   exactly-clear = calls.exactly-clear (tested K levels) ws
 
-  pub exactly-held : Exactly count_number Unknown (held_count K levels ws) (held_refusals K levels ws)
+  pub exactly-held : Exactly count_number Err (held_count K levels ws) (held_refusals K levels ws)
   unfolding held_count
   exactly-held = calls.exactly-held (tested K levels) ws
 

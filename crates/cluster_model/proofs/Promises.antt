@@ -1,6 +1,6 @@
 -- The promises: from a cleared store, over any list of requests, the heap is sound, nothing is damaged, it holds exactly what went in and has not come
 -- out, and what comes out has the lowest rank. What the heap keeps between calls makes it a queue (`is-queue`); what follows is every queue's (`promise/proofs/Kept.antt`).
-use Rattle.laws.specs.Prelude.{Answer, Bool, Done, Element, List, Replace, Request, ◌+◌, ◌<◌, ◌∙◌, ◌≡◌, ◌≤◌, ◌⊎◌, ap, arith, count_number, count_of, get_or, inl, inr, length, not-suc-le-zero, number_of, refl, subst, suc, sym, true, zero, ℕ}
+use Rattle.laws.specs.Prelude.{Answer, Bool, Element, List, Replace, Request, ◌+◌, ◌<◌, ◌∙◌, ◌≡◌, ◌≤◌, ◌⊎◌, ap, arith, count_number, count_of, get_or, inl, inr, length, not-suc-le-zero, number_of, refl, subst, suc, sym, true, zero, ℕ, Ok, None}
 use Rattle.promise.proofs.Calls.{fits-least, last-each, last_fits}
 use Rattle.promise.proofs.Kept as queue
 use Rattle.promise.proofs.Kept.{IsQueue}
@@ -146,7 +146,7 @@ pub past-stands : (K levels : ℕ) (r : Request) (ws : List ℕ) (p : ℕ) → e
 past-stands K levels r ws p h = called-either K levels r ws (λ o. get_or o.words p 0 ≡ get_or ws p 0) (λ x. refl) (λ s o w. run_only K levels _ ws p (inr h))
 
 -- CLEAR: "Clear writes zeros", and nothing behind
-pub clear-zeroes : (K levels : ℕ) (ws : List ℕ) → Shape K levels (length ws) → ((cleared K levels ws).answer ≡ Done) × Zeroed (extent K levels 1) ws (cleared K levels ws).words
+pub clear-zeroes : (K levels : ℕ) (ws : List ℕ) → Shape K levels (length ws) → ((cleared K levels ws).answer ≡ Ok None) × Zeroed (extent K levels 1) ws (cleared K levels ws).words
 clear-zeroes K levels ws sh =
     let e = cleared-fine K levels ws (is-shape K levels (length ws) sh) in (
       ap (λ (o : Outcome). o.answer) e,

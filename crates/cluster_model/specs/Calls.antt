@@ -1,6 +1,6 @@
 -- The five calls of the cluster heap, each a total function of K, levels and words to an answer and the words afterwards: what the heap brings, to the calls that every queue has (`promise/specs/Calls.antt`).
 use Rattle.std.specs.Prelude.{◌&&◌, ◌++◌, ◌+◌}
-use Rattle.laws.specs.Prelude.{Answer, BadShape, Bool, Count, Element, Idle, List, Pop, Push, Replace, Request, drop, leb, length, pred, replicate, ℕ}
+use Rattle.laws.specs.Prelude.{Answer, BadShape, Bool, Element, Idle, List, Pop, Push, Replace, Request, drop, leb, length, pred, replicate, ℕ, Result, Refusal}
 use Rattle.promise.specs.Calls as calls
 use Rattle.promise.specs.Prelude.{Queue, always, ends, last_table, needs}
 use Rattle.cluster_model.specs.Causes.{NodeDamaged, PathDamaged, Shape, stored_count}
@@ -90,5 +90,5 @@ module _ (K levels : ℕ) where
   cleared ws = calls.cleared heap ws
 
   -- held reads the root alone, once it passes the test of a node
-  unfoldable pub held_count : List ℕ → Count
+  unfoldable pub held_count : List ℕ → Result ℕ Refusal
   held_count ws = calls.held_count heap ws

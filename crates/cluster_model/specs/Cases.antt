@@ -1,6 +1,6 @@
 -- A worked store, K = 2, levels 2, capacity 6: push 5/50, 3/30, 8/80, 1/10, 9/90 with lengths, then replace 4/7, pop and pop.
 use Rattle.std.specs.Prelude.{◌++◌, ◌∷◌}
-use Rattle.laws.specs.Prelude.{Answer, Done, Empty, Full, List, NoTag, Out, Pop, Push, Refused, Replace, Request, [], element, replicate, ℕ}
+use Rattle.laws.specs.Prelude.{Answer, Empty, Full, List, NoTag, Pop, Push, Replace, Request, [], element, replicate, ℕ, Ok, None, Some, Err}
 use Rattle.promise.specs.Prelude.{answers}
 use Rattle.cluster_model.specs.Promise.{after, cluster_queue, start}
 
@@ -32,8 +32,8 @@ case_cluster_answers =
 
 abbrev pub case_cluster_answers_say : List (List Answer)
 case_cluster_answers_say =
-    (Done ∷ Done ∷ Done ∷ Done ∷ Done ∷ Done ∷ Refused Full ∷ Refused NoTag ∷ Out (element 1 10 100) ∷ Out (element 2 20 200) ∷ [])
-    ∷ (Done ∷ Done ∷ Out (element 5 4 2) ∷ Out (element 5 9 1) ∷ Refused Empty ∷ Refused Empty ∷ []) ∷ []
+    ((Ok None) ∷ (Ok None) ∷ (Ok None) ∷ (Ok None) ∷ (Ok None) ∷ (Ok None) ∷ Err Full ∷ Err NoTag ∷ Ok (Some (element 1 10 100)) ∷ Ok (Some (element 2 20 200)) ∷ [])
+    ∷ ((Ok None) ∷ (Ok None) ∷ Ok (Some (element 5 4 2)) ∷ Ok (Some (element 5 9 1)) ∷ Err Empty ∷ Err Empty ∷ []) ∷ []
 
 -- replace 5/7 after the pushes: 5/50, the lowest below, is not strictly lower, and 5/7 stays in the root
 unfoldable pub case_equal : List ℕ

@@ -1,6 +1,5 @@
 -- The scans of a full node find what the scan place by place finds.
-use Rattle.laws.specs.Prelude.{Bool, Element, List, ◌&&◌, ◌*◌, ◌+◌, ◌/◌, ◌<◌, ◌||◌, ◌∙◌, ◌≡◌, ◌≤◌, add-one, ap, ap₂, arith, cond, element_in, element_words, eq-eqb, eqb, eqb-false, eqb-true, false, false≢true, is_blank, le-leb, leb, leb-true, ltb, ltb-false, ltb-true, ne_eqb, not, not-suc-le-zero, precedes, refl, suc, sym, true, turn, zero, ℕ}
-use Rattle.strip.proofs.Order.{turn-before, turn-upto}
+use Rattle.laws.specs.Prelude.{Bool, List, ◌&&◌, ◌*◌, ◌+◌, ◌/◌, ◌<◌, ◌||◌, ◌∙◌, ◌≡◌, ◌≤◌, add-one, ap, ap₂, arith, cond, element_in, element_words, eq-eqb, eqb, eqb-false, eqb-true, false, false≢true, is_blank, le-leb, leb, leb-true, ltb, ltb-false, ltb-true, ne_eqb, not, not-suc-le-zero, refl, suc, sym, true, zero, ℕ}
 use Rattle.cluster_model.specs.Prelude.{Place, neat_place, place_at, place_by, place_of, place_words, row_of, word}
 use Rattle.cluster_node.specs.declared.Seen.{Seen}
 use Rattle.cluster_node.specs.declared.Lead.{Lead}
@@ -9,7 +8,7 @@ use Rattle.cluster_node.specs.Scan.{lower_than, high_as, scan}
 use Rattle.cluster_node.specs.Seeing.{is_flagged, see_one, look_to, low_only}
 use Rattle.cluster_node.specs.Full.{full_to, turn_at, best_to, turns, ranks, is_high, low_to, high_to, low_lead, high_lead}
 use Rattle.cluster_node.specs.Leaf.{bare_at, ok_by, counts_ok, peek_here, peek_at}
-use Rattle.cluster_node.proofs.ScanCode.{row-place, high-both}
+use Rattle.cluster_node.proofs.ScanCode.{precedes-turn, row-place, high-both}
 use Rattle.cluster_node.proofs.Bridge.{look-low, look-high}
 use Rattle.cluster_node.proofs.Looks.{within}
 
@@ -116,13 +115,6 @@ module _ (ws : List ℕ) (o : ℕ) where
   module _ (small : (i : ℕ) → word ws i < 4294967296) (n : ℕ) (full : full_to ws o n ≡ true) where
     flagged : (i : ℕ) → i < n → word ws (o + i * place_words + element_words) ≡ 0 → ⊥
     flagged i h z = let e : word ws (o + i * place_words + element_words) ≡ 1 = full_at n full i h in not-suc-le-zero {n = 0} (omega (arith, e))
-
-    precedes-turn : (a b : Element) → a.tag.0 < 4294967296 → b.tag.0 < 4294967296 → precedes a b ≡ ltb (turn a) (turn b)
-    precedes-turn a b s t = go (ltb (turn a) (turn b)) refl
-      where
-        go : (c : Bool) → ltb (turn a) (turn b) ≡ c → precedes a b ≡ c
-        go true e = turn-before a b s t (ltb-true (turn a) (turn b) e)
-        go false e = turn-upto b a t s (ltb-false (turn a) (turn b) e)
 
     lower-turn : (i k : ℕ) → i < n → k < n → lower_than (place_at (row_of place_of place_words n ws o) i) (place_at (row_of place_of place_words n ws o) k) ≡ ltb (turns ws o i) (turns ws o k)
     unfolding lower_than place_of place_by turn_at

@@ -1,11 +1,11 @@
 -- For the code of the scan and of a node's tests.
-use Rattle.laws.specs.Prelude.{Bool, Element, List, ◌&&◌, ◌*◌, ◌+◌, ◌-◌, ◌<◌, ◌||◌, ◌∙◌, ◌≡◌, ◌≤◌, add-one, ap, ap₂, arith, cond, element_in, element_words, eq-eqb, eqb, false, is_blank, leb, ne_eqb, not, not-suc-le-zero, pred, refl, set, subst, suc, sym, true, zero, ℕ}
+use Rattle.laws.specs.Prelude.{Bool, Element, List, ◌&&◌, ◌*◌, ◌+◌, ◌-◌, ◌<◌, ◌||◌, ◌∙◌, ◌≡◌, ◌≤◌, add-one, ap, ap₂, arith, cond, element_in, element_words, eq-eqb, eqb, false, is_blank, ne_eqb, not, not-suc-le-zero, pred, refl, set, sub-one, subst, suc, sym, true, zero, ℕ}
 use Rattle.cluster_node.specs.declared.Seen.{Seen}
 use Rattle.cluster_node.specs.declared.Found.{Found}
 use Rattle.cluster_model.specs.Prelude.{neat_place, place_of, place_words, word}
 use Rattle.cluster_node.specs.Scan.{lower_than, high_as}
 use Rattle.cluster_node.specs.Seeing.{is_flagged, see_one, look_to, no_look}
-use Rattle.cluster_node.specs.Leaf.{ok_by, bare_at, under_of, peek_here, peek_at, raise_words, sink_words}
+use Rattle.cluster_node.specs.Leaf.{ok_by, peek_here, peek_at, raise_words, sink_words}
 
 pub see-is : (ws : List ℕ) (o j : ℕ) (v : Seen) (x : Element) (blank : Bool) (count free low high : ℕ) (lower higher : Bool)
     → x ≡ element_in ws (o + j * place_words) → blank ≡ is_blank x → lower ≡ lower_than (place_of ws (o + j * place_words)) (place_of ws (o + v.low * place_words)) → higher ≡ high_as (place_of ws (o + j * place_words)) (place_of ws (o + v.high * place_words))
@@ -75,15 +75,6 @@ low-lt ws o (suc j) h = let v : Seen = look_to ws o j in
     let b = either (lower_than (place_of ws (o + j * place_words)) (place_of ws (o + v.low * place_words))) j v.low j (omega arith) (within ws o j).low in omega (arith, b)
 
 -- ---- tests
-pub ok-is : (K limit : ℕ) (ws : List ℕ) (o : ℕ) (v : Seen) (bare : Bool) (l r : ℕ) → bare ≡ (eqb (word ws o) 0 && eqb (word ws (o + 1)) 0) → l ≡ word ws o → r ≡ word ws (o + 1)
-    → (v.neat && (leb l limit && (leb r limit && (bare || leb K v.count)))) ≡ ok_by K limit ws o v
-unfolding ok_by bare_at
-ok-is K limit ws o v bare l r e p q = rw (e, p, q) refl
-
-pub under_none : (K limit : ℕ) → limit < K → 0 ≡ under_of K limit
-unfolding under_of
-under_none K limit h = let z : limit - K ≡ 0 = omega arith in rw z refl
-
 pub peek-none : (K limit : ℕ) (ws : List ℕ) (o count : ℕ) → count ≡ 0 → ◌≡◌ {A = Found} (record { ok = true; place = 0; rank = 0 }) (peek_at K limit ws o count)
 unfolding peek_at
 peek-none K limit ws o count e = rw (eq-eqb count 0 e) refl
@@ -116,10 +107,10 @@ raise-is right ws o l r i w ei ew = ap₂ (λ (i w : ℕ). set ws (o + i) (w + 1
     go true = refl
     go false = let z : o + 0 ≡ o = omega arith in ap (λ (i : ℕ). set ws i (l + 1)) z
 
-pub sink-is : (right : Bool) (ws : List ℕ) (o l r i w n : ℕ) → i ≡ cond right 1 0 → w ≡ cond right r l → n ≡ pred w → set ws (o + i) n ≡ sink_words right ws o l r
+pub sink-is : (right : Bool) (ws : List ℕ) (o l r i w n : ℕ) → i ≡ cond right 1 0 → w ≡ cond right r l → n ≡ w - 1 → set ws (o + i) n ≡ sink_words right ws o l r
 unfolding sink_words
-sink-is right ws o l r i w n ei ew en = ap₂ (λ (i n : ℕ). set ws (o + i) n) ei (en ∙ ap pred ew) ∙ go right
+sink-is right ws o l r i w n ei ew en = ap₂ (λ (i n : ℕ). set ws (o + i) n) ei (en ∙ ap (λ (w : ℕ). w - 1) ew) ∙ go right
   where
-    go : (b : Bool) → set ws (o + cond b 1 0) (pred (cond b r l)) ≡ cond b (set ws (o + 1) (pred r)) (set ws o (pred l))
-    go true = refl
-    go false = let z : o + 0 ≡ o = omega arith in ap (λ (i : ℕ). set ws i (pred l)) z
+    go : (b : Bool) → set ws (o + cond b 1 0) (cond b r l - 1) ≡ cond b (set ws (o + 1) (pred r)) (set ws o (pred l))
+    go true = ap (set ws (o + 1)) (sub-one r)
+    go false = let z : o + 0 ≡ o = omega arith in ap₂ (set ws) z (sub-one l)

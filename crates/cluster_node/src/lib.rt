@@ -2,7 +2,7 @@
 // place and of a count. A function that reads or writes a node asks that it lies within the words.
 #![tactic(auto)]
 
-ghost use Rattle.std.specs.Prelude.{◌≡◌, true, false, cond, ◌&&◌, leb, pred, ◌+◌, ◌*◌, ◌<◌, ◌≤◌, length};
+ghost use Rattle.std.specs.Prelude.{◌≡◌, true, cond, ◌&&◌, leb, ◌+◌, ◌*◌, ◌<◌, ◌≤◌, length, IfSome};
 ghost use Rattle.cluster_model.specs.Node.{gap, has};
 ghost use Rattle.cluster_model.specs.Calls.{place_limit};
 ghost use Rattle.cluster_model.specs.Words.{place_of, write_place, place_words, count_words};
@@ -53,6 +53,7 @@ pub const FOUR_LEFT: usize = FOUR_WORDS + COUNTS;
 pub const FOUR_RIGHT: usize = FOUR_LEFT + FOUR_WORDS;
 
 // A scan that takes every place for occupied: whether all flags are 1, the best place and the number that it is the best by.
+// No Option: `choice_full` reads place and number of both scans whether full or not, in no branch.
 #[derive(Clone, Copy)]
 pub struct Lead {
     pub full: bool,
@@ -61,6 +62,7 @@ pub struct Lead {
 }
 
 // A child read for its lowest: whether it is in order, the place and the rank there.
+// No Option: `choice` goes by place and rank whether ok or not, in no branch, and `ChoiceFrom` promises what it finds of a damaged node too.
 #[derive(Clone, Copy)]
 pub struct Found {
     pub ok: bool,
@@ -70,6 +72,7 @@ pub struct Found {
 
 // The lower of two children: whether both are in order, whether it is the right one, the word where it begins, its lowest place and the
 // element there.
+// No Option: `fill_gap` and `try_out` of the clock ask, with a room of 0, for the children of a node that has been tested, and take them whether ok or not.
 #[derive(Clone, Copy)]
 pub struct Chosen {
     pub ok: bool,
@@ -79,16 +82,19 @@ pub struct Chosen {
     pub up: Element,
 }
 
-pub fn choose(b: bool, x: usize, y: usize) -> usize
+// One of two, as a value: what follows goes one way.
+pub fn choose<T: Copy>(b: bool, x: T, y: T) -> T
     ensures { result ≡ cond b x y }
 {
     if b { x } else { y }
 }
 
-pub fn wide(x: u32) -> usize
-    ensures { result ≡ x }
+// Rank and tag of the place at word i as one number: the lower leaves first.
+pub fn turn_at(s: &[u32], i: usize) -> u64
+    requires { i + place_words ≤ length s.now }
+    ensures { result ≡ turn_at s.now i }
 {
-    x as usize
+    turn_of(element_at(s, i))
 }
 
 // Is the place at word i occupied, and the one at word k empty, or does the element at i leave before that at k?
@@ -102,11 +108,7 @@ pub fn lower_than(s: &[u32], i: usize, k: usize) -> bool
     if s[k + FLAG] == 0 {
         return true;
     }
-    let a = s[i];
-    let b = s[k];
-    let c = s[i + 1];
-    let d = s[k + 1];
-    (a < b) | ((a == b) & (c < d))
+    turn_at(s, i) < turn_at(s, k)
 }
 
 // Is it occupied, and the one at word k empty or not of a higher rank?
@@ -144,8 +146,7 @@ pub fn clear_place(s: &mut [u32], i: usize)
     requires { i + place_words ≤ length s.old }
     ensures { s.new ≡ write_place s.old i gap }
 {
-    let none = no_element();
-    write_element(s, i, none);
+    write_element(s, i, no_element());
     s[i + FLAG] = 0;
 }
 
@@ -187,21 +188,10 @@ pub fn look_each(s: &[u32], at: usize, n: usize) -> Seen
         low: 0,
         high: 0,
     };
-    let mut j = 0;
-    while j < n {
+    for j in 0..n {
         v = see(s, at, j, v);
-        j += 1;
     }
     v
-}
-
-// Rank and tag of the place at word i as one number: the lower leaves first.
-pub fn turn_at(s: &[u32], i: usize) -> u64
-    requires { i + place_words ≤ length s.now }
-    ensures { result ≡ turn_at s.now i }
-{
-    let x = element_at(s, i);
-    turn_of(x)
 }
 
 // The lowest of n places that begin at word at, all taken for occupied. The best turn stays in a local, and each place is read once.
@@ -212,8 +202,7 @@ pub fn low_each(s: &[u32], at: usize, n: usize) -> Lead
     let mut full = true;
     let mut place = 0;
     let mut best = turn_at(s, at);
-    let mut j = 0;
-    while j < n {
+    for j in 0..n {
         let i = at + j * PLACE_WORDS;
         let turn = turn_at(s, i);
         full = full & (s[i + FLAG] == 1);
@@ -221,12 +210,11 @@ pub fn low_each(s: &[u32], at: usize, n: usize) -> Lead
             place = j;
             best = turn;
         }
-        j += 1;
     }
     Lead { full, place, best }
 }
 
-// The highest, by rank.
+// The highest, by rank. (One function with two closures would be no plainer: a clause for what each of them returns at a place, for one line that differs.)
 pub fn high_each(s: &[u32], at: usize, n: usize) -> Lead
     requires { (at + n * place_words ≤ length s.now) × (0 < n) × (n ≤ 16) }
     ensures { result ≡ high_lead s.now at n }
@@ -234,8 +222,7 @@ pub fn high_each(s: &[u32], at: usize, n: usize) -> Lead
     let mut full = true;
     let mut place = 0;
     let mut best = s[at] as u64;
-    let mut j = 0;
-    while j < n {
+    for j in 0..n {
         let i = at + j * PLACE_WORDS;
         let rank = s[i] as u64;
         full = full & (s[i + FLAG] == 1);
@@ -243,15 +230,8 @@ pub fn high_each(s: &[u32], at: usize, n: usize) -> Lead
             place = j;
             best = rank;
         }
-        j += 1;
     }
     Lead { full, place, best }
-}
-
-pub fn choose_turn(b: bool, x: u64, y: u64) -> u64
-    ensures { result ≡ cond b x y }
-{
-    if b { x } else { y }
 }
 
 // The lowest of four: two pairs are compared, then the winners, so that fewer compares wait for each other. On a tie the first place stays.
@@ -269,13 +249,13 @@ pub fn low_four(s: &[u32], at: usize) -> Lead
         & (s[at + FOURTH_FLAG] == 1);
     let second = b < a;
     let first_place = choose(second, 1, 0);
-    let first = choose_turn(second, b, a);
+    let first = choose(second, b, a);
     let fourth = d < c;
     let last_place = choose(fourth, 3, 2);
-    let last = choose_turn(fourth, d, c);
+    let last = choose(fourth, d, c);
     let later = last < first;
     let place = choose(later, last_place, first_place);
-    let best = choose_turn(later, last, first);
+    let best = choose(later, last, first);
     Lead { full, place, best }
 }
 
@@ -339,18 +319,15 @@ pub fn node_ok(s: &[u32], k: usize, limit: usize, at: usize, v: Seen) -> bool
     ensures { result ≡ ok_by k limit s.now at v }
 {
     let bare = bare_at(s, at);
-    let l = wide(s[at]);
-    let r = wide(s[at + RIGHT]);
+    let l = s[at] as usize;
+    let r = s[at + RIGHT] as usize;
     v.neat & ((l <= limit) & ((r <= limit) & (bare | (k <= v.count))))
 }
 
 pub fn room_under(k: usize, limit: usize) -> usize
     ensures { result ≡ under_of k limit }
 {
-    if limit < k {
-        return 0;
-    }
-    (limit - k) / 2
+    limit.saturating_sub(k) / 2
 }
 
 // Are both counts of the node at word at within its children's room?
@@ -358,8 +335,8 @@ pub fn counts_ok(s: &[u32], limit: usize, at: usize) -> bool
     requires { at + count_words ≤ length s.now }
     ensures { result ≡ counts_ok limit s.now at }
 {
-    let l = wide(s[at]);
-    let r = wide(s[at + RIGHT]);
+    let l = s[at] as usize;
+    let r = s[at + RIGHT] as usize;
     (l <= limit) & (r <= limit)
 }
 
@@ -435,25 +412,11 @@ pub fn choice(s: &[u32], k: usize, limit: usize, at: usize) -> Chosen
     }
 }
 
-// No choice made yet.
-pub fn no_choice() -> Chosen
-    ensures { result.ok ≡ false }
-{
-    let up = no_element();
-    Chosen {
-        ok: false,
-        right: false,
-        child: 0,
-        place: 0,
-        up,
-    }
-}
-
 // The lower of the children of a node of four places, by a scan of each: where both counts are not 0 and both children full and in order. Else no
 // choice is made. The scans come from the caller, since a call that holds both is too long for the compiler to lay out in place.
-pub fn choice_full(s: &[u32], limit: usize, at: usize, p: Lead, q: Lead) -> Chosen
+pub fn choice_full(s: &[u32], limit: usize, at: usize, p: Lead, q: Lead) -> Option<Chosen>
     requires { Scanned s.now at p q }
-    ensures { result.ok ≡ true → ChoiceFrom 4 limit s.now at result }
+    ensures { IfSome result (λ c. (c.ok ≡ true) × ChoiceFrom 4 limit s.now at c) }
 {
     let l = s[at];
     let r = s[at + RIGHT];
@@ -466,28 +429,16 @@ pub fn choice_full(s: &[u32], limit: usize, at: usize, p: Lead, q: Lead) -> Chos
     let child = choose(right, rc, lc);
     let place = choose(right, q.place, p.place);
     let up = elem_at(s, child + COUNTS + place * PLACE_WORDS);
-    Chosen {
+    if !ok {
+        return None;
+    }
+    Some(Chosen {
         ok,
         right,
         child,
         place,
         up,
-    }
-}
-
-pub fn less(x: u32) -> u32
-    ensures { result ≡ pred x }
-{
-    if x == 0 {
-        return 0;
-    }
-    x - 1
-}
-
-pub fn choose_word(b: bool, x: u32, y: u32) -> u32
-    ensures { result ≡ cond b x y }
-{
-    if b { x } else { y }
+    })
 }
 
 // The count of one side, one less. Which side cannot be foretold, so the word is computed and no branch taken.
@@ -496,8 +447,8 @@ pub fn sink(s: &mut [u32], at: usize, right: bool, l: u32, r: u32)
     ensures { s.new ≡ sink_words right s.old at l r }
 {
     let side = choose(right, RIGHT, 0);
-    let count = choose_word(right, r, l);
-    s[at + side] = less(count);
+    let count = choose(right, r, l);
+    s[at + side] = count.saturating_sub(1);
 }
 
 // The count of one side, one more.
@@ -506,7 +457,7 @@ pub fn raise(s: &mut [u32], at: usize, right: bool, l: u32, r: u32)
     ensures { s.new ≡ raise_words right s.old at l r }
 {
     let side = choose(right, RIGHT, 0);
-    let count = choose_word(right, r, l);
+    let count = choose(right, r, l);
     s[at + side] = count + 1;
 }
 

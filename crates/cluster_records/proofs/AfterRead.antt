@@ -1,5 +1,5 @@
 -- A call on what was read of a lent slice: each test and what follows it leave what the definitions say.
-use Rattle.laws.specs.Prelude.{Answer, BadShape, Bool, List, Refused, Request, ◌&&◌, ◌-◌, ◌∙◌, ◌≡◌, ap, cond, false, has_run, ltb, not, not-false, not-true, refl, sym, true, ℕ}
+use Rattle.laws.specs.Prelude.{Answer, BadShape, Bool, List, Request, ◌&&◌, ◌-◌, ◌∙◌, ◌≡◌, ap, cond, false, has_run, ltb, not, not-false, not-true, refl, sym, true, ℕ, Err}
 use Rattle.cluster_clock_model.specs.Prelude.{CycleOutcome, DrainOutcome, clock_cleared, cycle_outcome, cycled, drain_outcome, drains, fresh}
 use Rattle.cluster_clock_model.specs.declared.Stage.{Stage}
 use Rattle.cluster_records.specs.Steps.{clear_from, cycle_from, drains_from, lends, ended_by, ended_cycle, ended_drain}
@@ -26,7 +26,7 @@ module _ (K levels len : ℕ) (ws : List ℕ) (t : Bool) (tested : t ≡ lends l
     both : (lends levels len && d.ok) ≡ (t && d.ok)
     both = ap (λ (b : Bool). b && d.ok) (sym tested)
 
-    module _ (e : not (t && d.ok) ≡ true) (x : ClusterEnded) (p : x ≡ ended_by (Refused BadShape) 0 false d.stages 0) where
+    module _ (e : not (t && d.ok) ≡ true) (x : ClusterEnded) (p : x ≡ ended_by (Err BadShape) 0 false d.stages 0) where
       pub cycle-unread : (r : Request) → (ws ≡ (cycle_from K levels len ws d r).words) × (x ≡ ended_cycle levels (cycle_from K levels len ws d r))
       unfolding cycle_from
       cycle-unread r = rw (both ∙ not-true (t && d.ok) e) (refl, p)
@@ -50,10 +50,10 @@ module _ (K levels len : ℕ) (ws : List ℕ) (t : Bool) (tested : t ≡ lends l
 
   -- a clear
   module _ (u : List Stage) (is : u ≡ fresh) where
-    pub clear-unread : not t ≡ true → (x : ClusterEnded) → x ≡ ended_by (Refused BadShape) 0 false u 0
+    pub clear-unread : not t ≡ true → (x : ClusterEnded) → x ≡ ended_by (Err BadShape) 0 false u 0
         → (ws ≡ (clear_from K levels len ws).words) × (x ≡ ended_cycle levels (clear_from K levels len ws))
     unfolding clear_from
-    clear-unread e x p = rw (sym tested ∙ not-true t e) (refl, p ∙ ap (λ (u : List Stage). ended_by (Refused BadShape) 0 false u 0) is)
+    clear-unread e x p = rw (sym tested ∙ not-true t e) (refl, p ∙ ap (λ (u : List Stage). ended_by (Err BadShape) 0 false u 0) is)
 
     pub clear-cycled : not t ≡ false → (a : Answer) (after : List ℕ) (s : List Stage) → cycle_outcome a after s ≡ clock_cleared K levels u ws
         → (ran : Bool) → ran ≡ has_run a → (n : ℕ) → n ≡ cond ran (levels - 1) 0 → (x : ClusterEnded) → x ≡ ended_by a 0 false s n

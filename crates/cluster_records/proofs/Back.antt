@@ -1,5 +1,5 @@
 -- What the code of a lent call has read, had cycled and written back is what the definitions say.
-use Rattle.laws.specs.Prelude.{BadShape, Bool, List, Refused, Request, [], ◌&&◌, ◌+◌, ◌-◌, ◌<◌, ◌∙◌, ◌∷◌, ◌≡◌, ◌≤◌, add-one, ap, ap₂, arith, cond, eq-or-lt_of_le, false, get_or, get_or-set_other, get_or-set_same, has_run, le-leb, le_of_suc-le-suc, leb, length, length-replicate, length-set, ltb, not-suc-le-zero, refl, replicate, set, suc, sym, true, true≢false, zero, ℕ, ⊎_elim}
+use Rattle.laws.specs.Prelude.{BadShape, Bool, List, Request, [], ◌&&◌, ◌+◌, ◌-◌, ◌<◌, ◌∙◌, ◌∷◌, ◌≡◌, ◌≤◌, add-one, ap, ap₂, arith, cond, eq-or-lt_of_le, false, get_or, get_or-set_other, get_or-set_same, has_run, le-leb, le_of_suc-le-suc, leb, length, length-replicate, length-set, ltb, not-suc-le-zero, refl, set, suc, sym, true, true≢false, zero, ℕ, ⊎_elim, Err}
 use Rattle.cluster_clock_model.proofs.Laws.{cycled-bad, drain-bad, few-levels}
 use Rattle.cluster_clock_model.specs.Prelude.{CycleOutcome, DrainOutcome, clock_cleared, cycle_outcome, cycled, drain_outcome, drains, fresh, no_stage, stage_at, stage_count}
 use Rattle.cluster_clock_model.specs.declared.Stage.{Stage}
@@ -17,8 +17,8 @@ here [] i h = absurd (not-suc-le-zero h)
 here (r ∷ rs) zero h = refl
 here (r ∷ rs) (suc i) h = here rs i (le_of_suc-le-suc h)
 
-pub stages-none : (rs : List ClusterRecord) → replicate stage_count no_stage ≡ stages_read 0 rs
-unfolding stages_read fresh
+pub stages-none : (rs : List ClusterRecord) → fresh ≡ stages_read 0 rs
+unfolding stages_read
 stages-none rs = refl
 
 pub stages-more : (i : ℕ) (rs : List ClusterRecord) (qs : List Stage) → qs ≡ stages_read i rs → (q : Stage) → q ≡ stage_of (get_or rs i no_record) → set qs i q ≡ stages_read (i + 1) rs
@@ -33,10 +33,8 @@ pub kinds-more : (i : ℕ) (rs : List ClusterRecord) (ok : Bool) → ok ≡ kind
 unfolding kinds_ok
 kinds-more i rs ok p b e = rw add-one (λ j. p j && e j)
 
-pub load-ends : (levels len : ℕ) (rs : List ClusterRecord) (n i : ℕ) → n ≡ reach levels len → i ≤ n → n ≤ i → (qs : List Stage) → qs ≡ stages_read i rs → (ok : Bool) → ok ≡ kinds_ok i rs → read qs ok ≡ read_of (reach levels len) rs
-load-ends levels len rs n i e h l qs p ok o =
-    let f : i ≡ n = omega (arith, h, l) in
-    (λ j. read (p j) (o j)) ∙ ap (λ (k : ℕ). read_of k rs) (f ∙ e)
+pub load-ends : (n i : ℕ) (rs : List ClusterRecord) → i ≡ n → (qs : List Stage) → qs ≡ stages_read i rs → (ok : Bool) → ok ≡ kinds_ok i rs → read qs ok ≡ read_of n rs
+load-ends n i rs e qs p ok o = (λ j. read (p j) (o j)) ∙ ap (λ (k : ℕ). read_of k rs) e
 
 pub stages-few : (k : ℕ) (rs : List ClusterRecord) → length (stages_read k rs) ≡ stage_count
 unfolding stages_read fresh
@@ -72,9 +70,6 @@ back_at (suc k) qs rs h j l =
 pub back_more : (i : ℕ) (qs : List Stage) (rs now : List ClusterRecord) → now ≡ stages_back i qs rs → (r : ClusterRecord) → r ≡ record_of (stage_at qs i) → set now i r ≡ stages_back (i + 1) qs rs
 unfolding stages_back
 back_more i qs rs now p r e = rw add-one (λ j. set (p j) i (e j))
-
-pub back-ends : (n i : ℕ) (qs : List Stage) (rs now : List ClusterRecord) → i ≤ n → n ≤ i → now ≡ stages_back i qs rs → now ≡ stages_back n qs rs
-back-ends n i qs rs now h l p = let f : i ≡ n = omega (arith, h, l) in p ∙ ap (λ (k : ℕ). stages_back k qs rs) f
 
 -- ---- the calls
 -- a slice that is not lent is too short, or no heap has so many levels
@@ -139,30 +134,30 @@ module _ (K levels : ℕ) (ws : List ℕ) (rs : List ClusterRecord) where
 
   -- a slice that is not lent
   module _ (e : lends levels (length rs) ≡ false) where
-    cycle-unlent : (r : Request) → lent_outcome (Refused BadShape) ws rs ≡ lent_cycled K levels rs ws r
+    cycle-unlent : (r : Request) → lent_outcome (Err BadShape) ws rs ≡ lent_cycled K levels rs ws r
     unfolding lent_cycled
     cycle-unlent r =
         short-or-bad K levels (length rs) (length ws) e _ (λ f. rw (readable-short (levels - 1) rs f))
-        (λ f. rw (cycled-bad K levels r (stages_read (levels - 1) rs) ws f) (either (readable (levels - 1) rs) (lent_outcome (Refused BadShape) ws rs)))
+        (λ f. rw (cycled-bad K levels r (stages_read (levels - 1) rs) ws f) (either (readable (levels - 1) rs) (lent_outcome (Err BadShape) ws rs)))
 
-    drain-unlent : (budget : ℕ) → lent_drain (Refused BadShape) 0 false ws rs ≡ lent_drains K levels rs ws budget
+    drain-unlent : (budget : ℕ) → lent_drain (Err BadShape) 0 false ws rs ≡ lent_drains K levels rs ws budget
     unfolding lent_drains
     drain-unlent budget =
         short-or-bad K levels (length rs) (length ws) e _ (λ f. rw (readable-short (levels - 1) rs f))
-        (λ f. rw (drain-bad K levels budget (stages_read (levels - 1) rs) ws f) (either (readable (levels - 1) rs) (lent_drain (Refused BadShape) 0 false ws rs)))
+        (λ f. rw (drain-bad K levels budget (stages_read (levels - 1) rs) ws f) (either (readable (levels - 1) rs) (lent_drain (Err BadShape) 0 false ws rs)))
 
-    clear-unlent : lent_outcome (Refused BadShape) ws rs ≡ lent_cleared K levels rs ws
+    clear-unlent : lent_outcome (Err BadShape) ws rs ≡ lent_cleared K levels rs ws
     unfolding lent_cleared clock_cleared
     clear-unlent =
-        short-or-bad K levels (length rs) (length ws) e _ (λ f. rw f) (λ f. rw f (either (leb (levels - 1) (length rs)) (lent_outcome (Refused BadShape) ws rs)))
+        short-or-bad K levels (length rs) (length ws) e _ (λ f. rw f) (λ f. rw f (either (leb (levels - 1) (length rs)) (lent_outcome (Err BadShape) ws rs)))
 
   -- LENT: a cycle, a drain, a clear
   pub cycle-lent : (r : Request) → left_cycle levels rs (cycle_from K levels (length rs) ws d r) ≡ lent_cycled K levels rs ws r
   unfolding cycle_from lent_cycled
   cycle-lent r = cycle-parts levels rs (cycle_from K levels (length rs) ws d r) ∙ go (lends levels (length rs)) refl
     where
-      read : (ok : Bool) → lent_of levels rs (cond ok (cycled K levels r (stages_read (levels - 1) rs) ws) (cycle_outcome (Refused BadShape) ws (stages_read (levels - 1) rs)))
-          ≡ cond ok (lent_of levels rs (cycled K levels r (stages_read (levels - 1) rs) ws)) (lent_outcome (Refused BadShape) ws rs)
+      read : (ok : Bool) → lent_of levels rs (cond ok (cycled K levels r (stages_read (levels - 1) rs) ws) (cycle_outcome (Err BadShape) ws (stages_read (levels - 1) rs)))
+          ≡ cond ok (lent_of levels rs (cycled K levels r (stages_read (levels - 1) rs) ws)) (lent_outcome (Err BadShape) ws rs)
       read true = refl
       read false = refl
 
@@ -174,8 +169,8 @@ module _ (K levels : ℕ) (ws : List ℕ) (rs : List ClusterRecord) where
   unfolding drains_from lent_drains
   drain-lent budget = drain-parts levels rs (drains_from K levels (length rs) ws d budget) ∙ go (lends levels (length rs)) refl
     where
-      read : (ok : Bool) → drain_of levels rs (cond ok (drains K levels budget (stages_read (levels - 1) rs) ws) (drain_outcome (Refused BadShape) 0 false ws (stages_read (levels - 1) rs)))
-          ≡ cond ok (drain_of levels rs (drains K levels budget (stages_read (levels - 1) rs) ws)) (lent_drain (Refused BadShape) 0 false ws rs)
+      read : (ok : Bool) → drain_of levels rs (cond ok (drains K levels budget (stages_read (levels - 1) rs) ws) (drain_outcome (Err BadShape) 0 false ws (stages_read (levels - 1) rs)))
+          ≡ cond ok (drain_of levels rs (drains K levels budget (stages_read (levels - 1) rs) ws)) (lent_drain (Err BadShape) 0 false ws rs)
       read true = refl
       read false = refl
 

@@ -1,5 +1,5 @@
 -- A lent drain is so many lent idle cycles, record for record, and gives each refusal exactly for its cause. A cycle's and a clear's tables are in `Exactly.antt`.
-use Rattle.laws.specs.Prelude.{BadShape, Bool, Exactly, Idle, List, Refusal, Refused, Request, [], ◌-◌, ◌<◌, ◌∙◌, ◌∷◌, ◌≡◌, ◌≤◌, ap, arith, cond, ext_get_or, false, get_or, has_run, length, lt-ltb, ltb, ltb-false, ltb-true, not, number_of, refl, replicate, subst, suc, sym, true, zero, ℕ}
+use Rattle.laws.specs.Prelude.{BadShape, Bool, Exactly, Idle, List, Refusal, Request, [], ◌-◌, ◌<◌, ◌∙◌, ◌∷◌, ◌≡◌, ◌≤◌, ap, arith, cond, ext_get_or, false, get_or, has_run, length, lt-ltb, ltb, ltb-false, ltb-true, not, number_of, refl, replicate, subst, suc, sym, true, zero, ℕ, Err}
 use Rattle.promise.specs.Prelude.{is_bad_shape, leaves, zero-ran}
 use Rattle.cluster_clock_model.proofs.Drain as model
 use Rattle.cluster_clock_model.proofs.Laws.{drain-bad, drain-ran, drain-state}
@@ -101,7 +101,7 @@ module _ (K levels : ℕ) (rs : List ClusterRecord) (ws : List ℕ) (budget : �
   drain-cycles = go (readable (levels - 1) rs) refl (shape_ok K levels (length ws)) refl
     where
       left : Bool → LentDrain
-      left b = cond b (drain_of levels rs o) (lent_drain (Refused BadShape) 0 false ws rs)
+      left b = cond b (drain_of levels rs o) (lent_drain (Err BadShape) 0 false ws rs)
 
       go : (b : Bool) → readable (levels - 1) rs ≡ b → (c : Bool) → shape_ok K levels (length ws) ≡ c → memory (left b).records (left b).words ≡ lent_idles K levels (left b).cycles (memory rs ws)
       go false e c f = refl
@@ -122,12 +122,12 @@ module _ (K levels : ℕ) (rs : List ClusterRecord) (ws : List ℕ) (budget : �
   drain-left-as e n = go (is_bad_shape n)
     where
       go : (b : Bool) → (let ran = cond b 0 o.cycles in let did = cond b 0 d.cycles in let x = lent_idles K levels did (memory rs ws) in
-          drain_of levels rs (drain_outcome (Refused n) ran (not b) (idles K levels ran (machine qs ws)).words (idles K levels ran (machine qs ws)).records) ≡ lent_drain (Refused n) did (not b) x.words x.records)
+          drain_of levels rs (drain_outcome (Err n) ran (not b) (idles K levels ran (machine qs ws)).words (idles K levels ran (machine qs ws)).records) ≡ lent_drain (Err n) did (not b) x.words x.records)
       go true = refl
       go false =
-          (λ i. lent_drain (Refused n) o.cycles true (sym z.0 i) (records_back levels rs (ltb 0 o.cycles) (sym z.1 i)))
-          ∙ ap (λ (d : LentDrain). lent_drain (Refused n) d.cycles true d.words d.records) (sym (drain-read e))
-          ∙ ap (λ (x : Memory). lent_drain (Refused n) d.cycles true x.words x.records) drain-cycles
+          (λ i. lent_drain (Err n) o.cycles true (sym z.0 i) (records_back levels rs (ltb 0 o.cycles) (sym z.1 i)))
+          ∙ ap (λ (d : LentDrain). lent_drain (Err n) d.cycles true d.words d.records) (sym (drain-read e))
+          ∙ ap (λ (x : Memory). lent_drain (Err n) d.cycles true x.words x.records) drain-cycles
 
   -- EXACTLY: a lent drain. Refused 2 it leaves the memory of the cycles already run
   pub exactly-drain : Exactly (λ (d : LentDrain). number_of d.answer) (lent_drain_left K levels d.cycles (memory rs ws)) d (lent_drain_refusals K levels rs ws budget)

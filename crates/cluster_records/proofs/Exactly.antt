@@ -1,5 +1,5 @@
 -- Every refusal of a lent cycle and clear is given exactly for its cause, and leaves words and records as its table says. A drain's are in `Drained.antt`.
-use Rattle.laws.specs.Prelude.{Answer, BadShape, Bool, Done, Exactly, Idle, List, Means, Refusal, Refused, Request, ◌-◌, ◌<◌, ◌≡◌, ◌≤◌, and_left, and_right, and-true, ap, arith, climb, climb-fine, cond, eq-or-lt_of_le, false, false≢true, fine, get_or, has_run, le-leb, le_of_suc-le-suc, leb, leb-true, left_behind, length, means-and, means-by, means-leb, not-suc-le-zero, number_of, refl, refusal_number, rung, runs_idle, subst, suc, sym, true, zero, ℕ, ⊎_elim}
+use Rattle.laws.specs.Prelude.{Answer, BadShape, Bool, Exactly, Idle, List, Means, Refusal, Request, ◌-◌, ◌<◌, ◌≡◌, ◌≤◌, and_left, and_right, and-true, ap, arith, climb, climb-fine, cond, eq-or-lt_of_le, false, false≢true, fine, get_or, has_run, le-leb, le_of_suc-le-suc, leb, leb-true, left_behind, length, means-and, means-by, means-leb, not-suc-le-zero, number_of, refl, refusal_number, rung, runs_idle, subst, suc, sym, true, zero, ℕ, ⊎_elim, Ok, None, Err}
 use Rattle.cluster_clock_model.proofs.Exactly as cycles
 use Rattle.cluster_clock_model.proofs.Laws.{damage-fails, sound, ticks}
 use Rattle.cluster_clock_model.specs.Prelude.{CycleDamage, CycleOutcome, Machine, clock_cleared, cycle_left, cycle_outcome, cycle_refusals, cycled, fresh, machine}
@@ -63,8 +63,8 @@ module _ (K levels : ℕ) (rs : List ClusterRecord) (ws : List ℕ) where
 
       go : (b : Bool) → (b ≡ true → has_run o.answer ≡ true)
           → (let x = cond {A = Machine} b (machine o.records o.words) (machine qs ws) in
-          let y = cond {A = LentOutcome} b (lent_of levels rs o) (lent_outcome (Refused n) ws rs) in
-          lent_outcome (Refused n) x.words (records_back levels rs b x.records) ≡ lent_outcome (Refused n) y.words y.records)
+          let y = cond {A = LentOutcome} b (lent_of levels rs o) (lent_outcome (Err n) ws rs) in
+          lent_outcome (Err n) x.words (records_back levels rs b x.records) ≡ lent_outcome (Err n) y.words y.records)
       go true f = rw (f refl)
       go false f = refl
 
@@ -88,5 +88,5 @@ module _ (K levels : ℕ) (rs : List ClusterRecord) (ws : List ℕ) where
   unfolding lent_cleared clock_cleared
   exactly-clear =
       climb said (lent_clear_left K levels rs ws) refusal-told (leb (levels - 1) (length rs)) (levels - 1 ≤ length rs) BadShape _ (rung BadShape (Shape K levels (length ws)) fine) (means-leb (levels - 1) (length rs))
-      (λ p. decided-exactly said (lent_clear_left K levels rs ws) refusal-told (lent_of levels rs) (λ n. cycle_outcome (Refused n) ws fresh) (needs BadShape (shape_ok K levels (length ws)) (Shape K levels (length ws)) ends)
-      (cycle_outcome Done (wipe (extent K levels 1) ws) fresh) fine (shape-means K levels (length ws), λ s. tt) (refl, tt) (λ c. climb-fine said (lent_clear_left K levels rs ws) _ (λ n z. zero-told n z)))
+      (λ p. decided-exactly said (lent_clear_left K levels rs ws) refusal-told (lent_of levels rs) (λ n. cycle_outcome (Err n) ws fresh) (needs BadShape (shape_ok K levels (length ws)) (Shape K levels (length ws)) ends)
+      (cycle_outcome (Ok None) (wipe (extent K levels 1) ws) fresh) fine (shape-means K levels (length ws), λ s. tt) (refl, tt) (λ c. climb-fine said (lent_clear_left K levels rs ws) _ (λ n z. zero-told n z)))

@@ -1,5 +1,5 @@
 -- A record that is written lies within the slice, and its node and its place fit their words.
-use Rattle.laws.specs.Prelude.{BadShape, Bool, Done, Element, Idle, List, Refused, Request, [], ◌&&◌, ◌+◌, ◌-◌, ◌<◌, ◌∙◌, ◌∷◌, ◌≡◌, ◌≤◌, and_right, ap, arith, cond, eq-or-lt_of_le, false, false≢true, get_or-replicate, get_or-set_same, has_run, inl, length, length-set, ltb, ltb-true, number_of, pred, refl, replicate, set, sub-one, subst, suc, sym, true, zero, ℕ, ⊎_elim}
+use Rattle.laws.specs.Prelude.{BadShape, Bool, Element, Idle, List, Request, [], ◌&&◌, ◌+◌, ◌-◌, ◌<◌, ◌∙◌, ◌∷◌, ◌≡◌, ◌≤◌, and_right, ap, arith, cond, eq-or-lt_of_le, false, false≢true, get_or-replicate, get_or-set_same, has_run, inl, length, length-set, ltb, ltb-true, number_of, pred, refl, replicate, set, sub-one, subst, suc, sym, true, zero, ℕ, ⊎_elim, Ok, None, Err}
 use Rattle.promise.specs.Prelude.{leaves, leaves-keep, zero-ran}
 use Rattle.cluster_clock_model.proofs.Laws.{Ranged, cycled-either, drain-ran, drain-state, few-levels, handed-in, pass-others, pass-records, ranged-set, stages-ranged}
 use Rattle.cluster_clock_model.specs.Prelude.{CycleOutcome, DrainOutcome, Work, asked_ok, begins, below, clock_cleared, cycle_outcome, cycle_queue, cycle_run, cycled, drain_outcome, drains, filled, fresh, handed, idles, level_stage, level_words, loaded, machine, no_stage, pass, stage_at, stage_count, stages_ok, work}
@@ -194,7 +194,7 @@ module _ (K levels len : ℕ) (ws : List ℕ) where
         ran e true f = some-ready (ended_cycle levels o) e (ap (λ (b : Bool). cond b (levels - 1) 0) f) (cycled-fits K levels r d.stages ws full f)
         ran e false f = none-ready (ended_cycle levels o) (ap (λ (b : Bool). cond b (levels - 1) 0) f)
 
-        go : (t : Bool) → lends levels len ≡ t → (ok : Bool) → Ready (ended_cycle levels (cond (t && ok) o (cycle_outcome (Refused BadShape) ws d.stages))) len
+        go : (t : Bool) → lends levels len ≡ t → (ok : Bool) → Ready (ended_cycle levels (cond (t && ok) o (cycle_outcome (Err BadShape) ws d.stages))) len
         go true e true = ran e (has_run o.answer) refl
         go true e false = none-ready _ refl
         go false e ok = none-ready _ refl
@@ -210,7 +210,7 @@ module _ (K levels len : ℕ) (ws : List ℕ) where
         ran e true f = some-ready (ended_drain levels o) e (ap (λ (b : Bool). cond b (levels - 1) 0) f) (drained-fits K levels budget d.stages ws full (ltb-true 0 o.cycles f))
         ran e false f = none-ready (ended_drain levels o) (ap (λ (b : Bool). cond b (levels - 1) 0) f)
 
-        go : (t : Bool) → lends levels len ≡ t → (ok : Bool) → Ready (ended_drain levels (cond (t && ok) o (drain_outcome (Refused BadShape) 0 false ws d.stages))) len
+        go : (t : Bool) → lends levels len ≡ t → (ok : Bool) → Ready (ended_drain levels (cond (t && ok) o (drain_outcome (Err BadShape) 0 false ws d.stages))) len
         go true e true = ran e (ltb 0 o.cycles) refl
         go true e false = none-ready _ refl
         go false e ok = none-ready _ refl
@@ -220,7 +220,7 @@ module _ (K levels len : ℕ) (ws : List ℕ) where
   clear-ready = go (lends levels len) refl (shape_ok K levels (length ws))
     where
       go : (t : Bool) → lends levels len ≡ t → (b : Bool)
-          → Ready (ended_cycle levels (cond t (cond b (cycle_outcome Done (wipe (extent K levels 1) ws) fresh) (cycle_outcome (Refused BadShape) ws fresh)) (cycle_outcome (Refused BadShape) ws fresh))) len
+          → Ready (ended_cycle levels (cond t (cond b (cycle_outcome (Ok None) (wipe (extent K levels 1) ws) fresh) (cycle_outcome (Err BadShape) ws fresh)) (cycle_outcome (Err BadShape) ws fresh))) len
       go true e true = record { few = lends-few levels len e; within = lends-within levels len e; fits = λ i h. fresh_at i (omega (arith, h, lends-few levels len e)) }
       go true e false = none-ready _ refl
       go false e b = none-ready _ refl

@@ -1,5 +1,5 @@
 -- A list of lent calls is the list of by-value cycles: the host's memory holds the machine that they leave.
-use Rattle.laws.specs.Prelude.{Bool, Done, Element, Empty, Full, Idle, List, NoTag, Out, Pop, Push, Refused, Replace, Request, [], ◌-◌, ◌∙◌, ◌≡◌, ◌≤◌, and_left, and-true, ap, arith, cond, eqb, false, has_run, le-leb, leb, leb-true, length, ltb, ltb-false, pred, refl, replicate, sub-one, subst, sym, true, true≢false, untagged, ℕ}
+use Rattle.laws.specs.Prelude.{Bool, Element, Empty, Full, Idle, List, NoTag, Pop, Push, Replace, Request, [], ◌-◌, ◌∙◌, ◌≡◌, ◌≤◌, and_left, and-true, ap, arith, cond, eqb, false, has_run, le-leb, leb, leb-true, length, ltb, ltb-false, pred, refl, replicate, sub-one, subst, sym, true, true≢false, untagged, ℕ, Ok, None, Some, Err}
 use Rattle.cluster_clock_model.proofs.Laws.{clear-taken, cycled-either, cycled-length, drain-state, few-levels, shape-kept, sound}
 use Rattle.cluster_clock_model.specs.Prelude.{DrainOutcome, Machine, cleared_machine, cycle_answers, cycle_queue, cycle_run, cycled, drains, fresh, idles, machine, ran, stage_count}
 use Rattle.cluster_clock_model.specs.declared.Stage.{Stage}
@@ -16,18 +16,18 @@ unfolding rule
 rule-runs c h e Idle = refl
 rule-runs c h e (Push x) = go (untagged x) (ltb h c)
   where
-    go : (a b : Bool) → has_run (cond {A = Ruling} a (ruling (Refused NoTag) none) (cond {A = Ruling} b (ruling Done (put x)) (ruling (Refused Full) none))).answer ≡ true
+    go : (a b : Bool) → has_run (cond {A = Ruling} a (ruling (Err NoTag) none) (cond {A = Ruling} b (ruling (Ok None) (put x)) (ruling (Err Full) none))).answer ≡ true
     go true b = refl
     go false true = refl
     go false false = refl
 rule-runs c h e Pop = go (eqb h 0)
   where
-    go : (b : Bool) → has_run (cond {A = Ruling} b (ruling (Refused Empty) none) (ruling (Out e) take)).answer ≡ true
+    go : (b : Bool) → has_run (cond {A = Ruling} b (ruling (Err Empty) none) (ruling (Ok (Some e)) take)).answer ≡ true
     go true = refl
     go false = refl
 rule-runs c h e (Replace x) = go (untagged x) (eqb h 0)
   where
-    go : (a b : Bool) → has_run (cond {A = Ruling} a (ruling (Refused NoTag) none) (cond {A = Ruling} b (ruling (Refused Empty) none) (ruling (Out e) (swap x)))).answer ≡ true
+    go : (a b : Bool) → has_run (cond {A = Ruling} a (ruling (Err NoTag) none) (cond {A = Ruling} b (ruling (Err Empty) none) (ruling (Ok (Some e)) (swap x)))).answer ≡ true
     go true b = refl
     go false true = refl
     go false false = refl
@@ -151,11 +151,11 @@ module _ (K levels : ℕ) where
 
 -- ---- CLEARED: a clear, with a shape and a record for each level from 2, is not refused, whatever the records hold, and leaves a cleared machine
 module _ (K levels : ℕ) (rs : List ClusterRecord) (ws : List ℕ) (sh : Shape K levels (length ws)) (enough : levels - 1 ≤ length rs) where
-  pub clear-is : lent_cleared K levels rs ws ≡ lent_outcome Done (cleared_machine K levels ws).words (stages_back (levels - 1) fresh rs)
+  pub clear-is : lent_cleared K levels rs ws ≡ lent_outcome (Ok None) (cleared_machine K levels ws).words (stages_back (levels - 1) fresh rs)
   unfolding lent_cleared
   clear-is = rw (le-leb (levels - 1) (length rs) enough) (ap (lent_of levels rs) (clear-taken K levels ws fresh sh))
 
-  pub clear-answer : (lent_cleared K levels rs ws).answer ≡ Done
+  pub clear-answer : (lent_cleared K levels rs ws).answer ≡ Ok None
   clear-answer = ap (λ (o : LentOutcome). o.answer) clear-is
 
   pub clear-holds : Holds K levels (cleared_memory K levels (memory rs ws)) (cleared_machine K levels ws)

@@ -1,5 +1,5 @@
 -- Records read and written one after the other, and what the tests of them say.
-use Rattle.laws.specs.Prelude.{Bool, Element, [], ◌&&◌, ◌-◌, ◌<◌, ◌∙◌, ◌∷◌, ◌≡◌, ◌≤◌, and_left, and_right, ap, arith, blank, cond, eq-eqb, false, le-leb, leb, leb-true, lt-leb, ne_eqb, refl, subst, sym, true, ℕ}
+use Rattle.laws.specs.Prelude.{Bool, Element, [], ◌&&◌, ◌-◌, ◌<◌, ◌∙◌, ◌∷◌, ◌≡◌, ◌≤◌, and_left, and_right, ap, arith, blank, cond, false, le-leb, leb, leb-true, lt-leb, ne_eqb, refl, subst, sym, true, ℕ}
 use Rattle.cluster_clock_model.specs.Prelude.{no_stage, stage, stage_count, stage_numbers}
 use Rattle.cluster_clock_model.specs.declared.Due.{Due}
 use Rattle.cluster_clock_model.specs.declared.Due.TheVariants.{Fill, Nothing, Put, Swap}
@@ -54,21 +54,19 @@ reach-within levels len = go (lends levels len) refl
 module _ (r : ClusterRecord) where
   pub stage-put : kind_in r ≡ 1 → stage (Put (carries r)) (at_node r) ≡ stage_of r
   unfolding stage_of
-  stage-put e = rw (eq-eqb (kind_in r) 1 e)
+  stage-put e = rw e
 
-  module _ (a : kind_in r ≡ 1 → ⊥) where
-    pub stage-fill : kind_in r ≡ 2 → stage (Fill (at_place r)) (at_node r) ≡ stage_of r
-    unfolding stage_of
-    stage-fill e = rw (ne_eqb (kind_in r) 1 a, eq-eqb (kind_in r) 2 e)
+  pub stage-fill : kind_in r ≡ 2 → stage (Fill (at_place r)) (at_node r) ≡ stage_of r
+  unfolding stage_of
+  stage-fill e = rw e
 
-    module _ (b : kind_in r ≡ 2 → ⊥) where
-      pub stage-swap : kind_in r ≡ 3 → stage (Swap (at_place r) (carries r)) (at_node r) ≡ stage_of r
-      unfolding stage_of
-      stage-swap e = rw (ne_eqb (kind_in r) 1 a, ne_eqb (kind_in r) 2 b, eq-eqb (kind_in r) 3 e)
+  pub stage-swap : kind_in r ≡ 3 → stage (Swap (at_place r) (carries r)) (at_node r) ≡ stage_of r
+  unfolding stage_of
+  stage-swap e = rw e
 
-      pub stage-nothing : (kind_in r ≡ 3 → ⊥) → (q : Stage) → q ≡ no_stage → q ≡ stage_of r
-      unfolding stage_of
-      stage-nothing d q e = rw (ne_eqb (kind_in r) 1 a, ne_eqb (kind_in r) 2 b, ne_eqb (kind_in r) 3 d) e
+  pub stage-nothing : (kind_in r ≡ 1 → ⊥) → (kind_in r ≡ 2 → ⊥) → (kind_in r ≡ 3 → ⊥) → (q : Stage) → q ≡ no_stage → q ≡ stage_of r
+  unfolding stage_of
+  stage-nothing a b d q e = rw (ne_eqb (kind_in r) 1 a, ne_eqb (kind_in r) 2 b, ne_eqb (kind_in r) 3 d) e
 
 -- ---- one record written
 pub record_is : (q : Stage) (d : Due) (r : ClusterRecord) → q.due ≡ d → r ≡ record_by d q.node → r ≡ record_of q

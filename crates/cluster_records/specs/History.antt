@@ -1,6 +1,6 @@
 -- What is promised of lent calls is said in these words: the host's memory beside a machine that goes by value.
 use Rattle.std.specs.Prelude.{◌-◌, ◌≡◌}
-use Rattle.laws.specs.Prelude.{Answer, Idle, List, Refusal, Refused, Request, cond, length, not, replicate, true, ℕ}
+use Rattle.laws.specs.Prelude.{Answer, Idle, List, Refusal, Request, cond, length, not, replicate, true, ℕ, Err}
 use Rattle.promise.specs.Prelude.{Step, is_bad_shape, leaves, step}
 use Rattle.cluster_clock_model.specs.Prelude.{Machine}
 use Rattle.cluster_records.specs.Lent.{ClusterRecord, lent_cleared, lent_drain, LentDrain, lent_cycled, readable, stages_read}
@@ -29,7 +29,7 @@ module _ (K levels : ℕ) where
   lent_drain_left cycles x n =
       let ran = cond (is_bad_shape n) 0 cycles in
       let y = lent_idles ran x in
-      lent_drain (Refused n) ran (not (is_bad_shape n)) y.words y.records
+      lent_drain (Err n) ran (not (is_bad_shape n)) y.words y.records
 
   -- what a clear makes of it
   abbrev pub cleared_memory : Memory → Memory

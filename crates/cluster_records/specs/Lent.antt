@@ -1,7 +1,7 @@
 -- The clocked cluster heap's calls over records in the host's own memory, as 02 [13] has them for the tree: each is the by-value call on the records read,
 -- and what that leaves is written back.
 use Rattle.std.specs.Prelude.{◌&&◌, ◌-◌, ◌∷◌}
-use Rattle.laws.specs.Prelude.{Answer, BadShape, Bool, Element, List, Refused, Request, [], cond, element, eqb, false, get_or, has_run, leb, length, ltb, set, suc, true, zero, ℕ}
+use Rattle.laws.specs.Prelude.{Answer, BadShape, Bool, Element, List, Request, [], cond, element, eqb, false, get_or, has_run, leb, length, ltb, set, suc, true, zero, ℕ, Err}
 use Rattle.cluster_clock_model.specs.Prelude.{CycleOutcome, DrainOutcome, clock_cleared, cycled, drains, fresh, no_stage, stage, stage_at}
 use Rattle.cluster_clock_model.specs.declared.Due.{Due}
 use Rattle.cluster_clock_model.specs.declared.Due.TheVariants.{Fill, Nothing, Put, Swap}
@@ -101,11 +101,11 @@ module _ (levels : ℕ) (rs : List ClusterRecord) where
 
 module _ (K levels : ℕ) (rs : List ClusterRecord) (ws : List ℕ) where
   unfoldable pub lent_cycled : Request → LentOutcome
-  lent_cycled r = cond (readable (levels - 1) rs) (lent_of levels rs (cycled K levels r (stages_read (levels - 1) rs) ws)) (lent_outcome (Refused BadShape) ws rs)
+  lent_cycled r = cond (readable (levels - 1) rs) (lent_of levels rs (cycled K levels r (stages_read (levels - 1) rs) ws)) (lent_outcome (Err BadShape) ws rs)
 
   unfoldable pub lent_drains : ℕ → LentDrain
-  lent_drains budget = cond (readable (levels - 1) rs) (drain_of levels rs (drains K levels budget (stages_read (levels - 1) rs) ws)) (lent_drain (Refused BadShape) 0 false ws rs)
+  lent_drains budget = cond (readable (levels - 1) rs) (drain_of levels rs (drains K levels budget (stages_read (levels - 1) rs) ws)) (lent_drain (Err BadShape) 0 false ws rs)
 
   -- a clear reads no record
   unfoldable pub lent_cleared : LentOutcome
-  lent_cleared = cond (leb (levels - 1) (length rs)) (lent_of levels rs (clock_cleared K levels fresh ws)) (lent_outcome (Refused BadShape) ws rs)
+  lent_cleared = cond (leb (levels - 1) (length rs)) (lent_of levels rs (clock_cleared K levels fresh ws)) (lent_outcome (Err BadShape) ws rs)

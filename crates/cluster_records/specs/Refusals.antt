@@ -1,6 +1,6 @@
 -- The tables of refusals of the lent calls, and what each refusal leaves behind: words and records. A drain's is in `History.antt`, beside the list of calls.
 use Rattle.std.specs.Prelude.{◌-◌, ◌<◌, ◌≤◌}
-use Rattle.laws.specs.Prelude.{BadShape, Idle, Ladder, List, Refusal, Refused, Request, cond, fine, get_or, length, rung, runs_idle, ℕ}
+use Rattle.laws.specs.Prelude.{BadShape, Idle, Ladder, List, Refusal, Request, cond, fine, get_or, length, rung, runs_idle, ℕ, Err}
 use Rattle.cluster_clock_model.specs.Prelude.{cycle_refusals, drain_refusals}
 use Rattle.cluster_records.specs.Lent.{ClusterRecord, kind_in, lent_outcome, LentOutcome, lent_cycled, no_record, stages_read}
 use Rattle.cluster_model.specs.Prelude.{Shape}
@@ -24,7 +24,7 @@ module _ (K levels : ℕ) (rs : List ClusterRecord) (ws : List ℕ) where
 
   -- column "Left behind": after 1 and 2 everything, records too; after the others the "cycle runs as idle"
   abbrev pub lent_clear_left : Refusal → LentOutcome
-  lent_clear_left n = lent_outcome (Refused n) ws rs
+  lent_clear_left n = lent_outcome (Err n) ws rs
 
   abbrev pub lent_left : Refusal → LentOutcome
-  lent_left n = let x = cond {A = LentOutcome} (runs_idle n) (lent_cycled K levels rs ws Idle) (lent_clear_left n) in lent_outcome (Refused n) x.words x.records
+  lent_left n = let x = cond {A = LentOutcome} (runs_idle n) (lent_cycled K levels rs ws Idle) (lent_clear_left n) in lent_outcome (Err n) x.words x.records

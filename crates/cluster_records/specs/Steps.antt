@@ -1,6 +1,6 @@
 -- What the code between the slice and the by-value calls asks and says.
 use Rattle.std.specs.Prelude.{◌&&◌, ◌-◌, ◌<◌, ◌≤◌}
-use Rattle.laws.specs.Prelude.{Answer, BadShape, Bool, List, Refused, Request, cond, false, has_run, leb, ltb, ℕ}
+use Rattle.laws.specs.Prelude.{Answer, BadShape, Bool, List, Request, cond, false, has_run, leb, ltb, ℕ, Err}
 use Rattle.cluster_clock_model.specs.Prelude.{CycleOutcome, DrainOutcome, clock_cleared, cycle_outcome, cycled, drain_outcome, drains, fresh, stage_at, stage_count}
 use Rattle.cluster_clock_model.specs.declared.Stage.{Stage}
 use Rattle.cluster_records.specs.Lent.{at_node, at_place, ClusterRecord, kinds_ok, record_of, stages_read}
@@ -30,14 +30,14 @@ read_of k rs = read (stages_read k rs) (kinds_ok k rs)
 -- ---- the by-value calls on what was read from a slice of so many records
 module _ (K levels len : ℕ) (ws : List ℕ) where
   unfoldable pub cycle_from : ClusterRead → Request → CycleOutcome
-  cycle_from d r = cond (lends levels len && d.ok) (cycled K levels r d.stages ws) (cycle_outcome (Refused BadShape) ws d.stages)
+  cycle_from d r = cond (lends levels len && d.ok) (cycled K levels r d.stages ws) (cycle_outcome (Err BadShape) ws d.stages)
 
   unfoldable pub drains_from : ClusterRead → ℕ → DrainOutcome
-  drains_from d budget = cond (lends levels len && d.ok) (drains K levels budget d.stages ws) (drain_outcome (Refused BadShape) 0 false ws d.stages)
+  drains_from d budget = cond (lends levels len && d.ok) (drains K levels budget d.stages ws) (drain_outcome (Err BadShape) 0 false ws d.stages)
 
   -- a clear reads no record
   unfoldable pub clear_from : CycleOutcome
-  clear_from = cond (lends levels len) (clock_cleared K levels fresh ws) (cycle_outcome (Refused BadShape) ws fresh)
+  clear_from = cond (lends levels len) (clock_cleared K levels fresh ws) (cycle_outcome (Err BadShape) ws fresh)
 
 -- ---- what is left, and how many records are to be written
 abbrev pub ended_by : Answer → ℕ → Bool → List Stage → ℕ → ClusterEnded

@@ -18,14 +18,11 @@ pub fn cycle_read(
 ) -> ClusterEnded
     ensures { (store.new ≡ (cycle_from places levels len store.old read request).words) × (result ≡ ended_cycle levels (cycle_from places levels len store.old read request)) }
 {
-    let stages = read.stages;
     if !(is_lent(levels, len) & read.ok) {
-        return refused(stages);
+        return refused(read.stages);
     }
-    let c = cycle(store, places, levels, stages, request);
-    let answer = c.answer;
-    let next = c.records;
-    ended_by(answer, 0, false, next, due(has_run(answer), levels))
+    let c = cycle(store, places, levels, read.stages, request);
+    ended_by(c.answer, 0, false, c.state, due(has_run(c.answer), levels))
 }
 
 // A drain on what was read of a slice of `len` records.
@@ -39,15 +36,17 @@ pub fn drain_read(
 ) -> ClusterEnded
     ensures { (store.new ≡ (drains_from places levels len store.old read budget).words) × (result ≡ ended_drain levels (drains_from places levels len store.old read budget)) }
 {
-    let stages = read.stages;
     if !(is_lent(levels, len) & read.ok) {
-        return refused(stages);
+        return refused(read.stages);
     }
-    let d = drain(store, places, levels, stages, budget);
-    let answer = d.answer;
-    let cycles = d.cycles;
-    let next = d.records;
-    ended_by(answer, cycles, d.left, next, due(0 < cycles, levels))
+    let d = drain(store, places, levels, read.stages, budget);
+    ended_by(
+        d.answer,
+        d.cycles,
+        d.left,
+        d.state,
+        due(0 < d.cycles, levels),
+    )
 }
 
 // A clear beside a slice of `len` records, none of which it reads.
@@ -59,7 +58,5 @@ pub fn clear_beside(store: &mut [u32], places: usize, levels: usize, len: usize)
         return refused(none);
     }
     let c = clear(store, places, levels, none);
-    let answer = c.answer;
-    let next = c.records;
-    ended_by(answer, 0, false, next, due(has_run(answer), levels))
+    ended_by(c.answer, 0, false, c.state, due(has_run(c.answer), levels))
 }

@@ -3,17 +3,18 @@
 #![tactic(auto)]
 
 ghost use Rattle.std.specs.Prelude.{◌≡◌, false, leb};
-ghost use Rattle.cluster_clock_model.specs.Stage.{no_stage};
 ghost use Rattle.cluster_records.specs.Lent.{kind_in, stage_of, bare_record, laden_record, record_of};
 ghost use Rattle.cluster_records.specs.Steps.{lends, reach, ended_by, Written};
 
 pub mod calls;
 pub mod memory;
 
+use cluster_clock_level::no_stage;
 use cluster_clock_model::{Due, STAGES, Stage};
-use strip::{Answer, Element, Length, Rank, Refusal, Tag};
+use strip::{Answer, Element, Refusal, element_of};
 
 // What was read of the records: what each holds, and whether all the kinds are kinds.
+// The flag stands beside the stages: a call that is refused answers with them as they were read (`cycle_from`).
 #[derive(Clone, Copy)]
 pub struct ClusterRead {
     pub stages: [Stage; STAGES],
@@ -56,33 +57,16 @@ pub fn reached(levels: usize, len: usize) -> usize
 pub fn stage_of(r: [u32; 6]) -> Stage
     ensures { result ≡ stage_of r }
 {
-    let kind = r[0];
     let node = r[1] as usize;
     let place = r[2] as usize;
-    let x = Element {
-        rank: Rank(r[3]),
-        tag: Tag(r[4]),
-        length: Length(r[5]),
+    let x = element_of(r[3], r[4], r[5]);
+    let due = match r[0] {
+        1 => Due::Put(x),
+        2 => Due::Fill(place),
+        3 => Due::Swap(place, x),
+        _ => return no_stage(),
     };
-    if kind == 1 {
-        return Stage {
-            due: Due::Put(x),
-            node,
-        };
-    }
-    if kind == 2 {
-        return Stage {
-            due: Due::Fill(place),
-            node,
-        };
-    }
-    if kind == 3 {
-        return Stage {
-            due: Due::Swap(place, x),
-            node,
-        };
-    }
-    no_stage()
+    Stage { due, node }
 }
 
 // Whether a record's kind is one.
@@ -90,16 +74,6 @@ pub fn is_kind(r: [u32; 6]) -> bool
     ensures { result ≡ leb (kind_in r) 3 }
 {
     r[0] <= 3
-}
-
-// Where no record was read, and where nothing is due.
-pub fn no_stage() -> Stage
-    ensures { result ≡ no_stage }
-{
-    Stage {
-        due: Due::Nothing,
-        node: 0,
-    }
 }
 
 // ---- what a call has left
@@ -123,9 +97,9 @@ pub fn ended_by(
 }
 
 pub fn refused(stages: [Stage; STAGES]) -> ClusterEnded
-    ensures { result ≡ ended_by (Answer.Refused Refusal.BadShape) 0 false stages 0 }
+    ensures { result ≡ ended_by (Err Refusal.BadShape) 0 false stages 0 }
 {
-    ended_by(Answer::Refused(Refusal::BadShape), 0, false, stages, 0)
+    ended_by(Err(Refusal::BadShape), 0, false, stages, 0)
 }
 
 // ---- writing
@@ -135,8 +109,7 @@ pub fn record_of(q: Stage) -> [u32; 6]
     requires { Written q }
     ensures { result ≡ record_of q }
 {
-    let due = q.due;
-    match due {
+    match q.due {
         Due::Nothing => bare(0, 0, 0),
         Due::Put(y) => laden(1, q.node as u32, 0, y),
         Due::Fill(j) => bare(2, q.node as u32, j as u32),
@@ -155,8 +128,5 @@ fn bare(kind: u32, node: u32, place: u32) -> [u32; 6]
 fn laden(kind: u32, node: u32, place: u32, x: Element) -> [u32; 6]
     ensures { result ≡ laden_record kind node place x }
 {
-    let rank = x.rank.0;
-    let tag = x.tag.0;
-    let length = x.length.0;
-    [kind, node, place, rank, tag, length]
+    [kind, node, place, x.rank.0, x.tag.0, x.length.0]
 }

@@ -4,8 +4,8 @@ ghost use Rattle.strip.specs.Answers.{number_of};
 ghost use Rattle.cluster_records.specs.Lent.{stages_back};
 ghost use Rattle.cluster_records.specs.Steps.{reach, read_of, Ready};
 
-use crate::{ClusterEnded, ClusterRead, is_kind, no_stage, reached, record_of, stage_of};
-use cluster_clock_model::STAGES;
+use crate::{ClusterEnded, ClusterRead, is_kind, reached, record_of, stage_of};
+use cluster_clock_level::shaped::fresh_records;
 use strip::number;
 
 // What is read of the records: those of so many levels, where the slice has them. The stages are a local of the loop: what goes through a call
@@ -13,16 +13,12 @@ use strip::number;
 pub fn load(records: &[[u32; 6]], levels: usize) -> ClusterRead
     ensures { result ≡ read_of (reach levels (length records.now)) records.now }
 {
-    let n = reached(levels, records.len());
-    let none = no_stage();
-    let mut stages = [none; STAGES];
+    let mut stages = fresh_records();
     let mut ok = true;
-    let mut i = 0;
-    while i < n {
+    for i in 0..reached(levels, records.len()) {
         let r = records[i];
         stages[i] = stage_of(r);
-        ok = ok & is_kind(r);
-        i = i + 1;
+        ok &= is_kind(r);
     }
     ClusterRead { stages, ok }
 }
@@ -32,14 +28,8 @@ pub fn hand_back(records: &mut [[u32; 6]], ended: ClusterEnded) -> u32
     requires { Ready ended (length records.old) }
     ensures { (records.new ≡ stages_back ended.count ended.stages records.old) × (result ≡ number_of ended.answer) }
 {
-    let n = ended.count;
-    let stages = ended.stages;
-    let mut i = 0;
-    while i < n {
-        let q = stages[i];
-        records[i] = record_of(q);
-        i = i + 1;
+    for i in 0..ended.count {
+        records[i] = record_of(ended.stages[i]);
     }
-    let answer = ended.answer;
-    number(answer)
+    number(ended.answer)
 }

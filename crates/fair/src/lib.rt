@@ -10,14 +10,11 @@ pub mod numbers;
 
 use fair_model::{FairAnswer, FairRefusal, Flow, Weight};
 use fair_table::step_of;
-use strip::{Answer, Count, Element, Length, Rank, Refusal, Tag};
+use strip::{Answer, Element, Length, Rank, Refusal, Tag};
 use tree_node::slot::zero_words;
 
 // The words of a state: the clock and 64 finishes.
 pub const STATE_WORDS: usize = 65;
-
-// The largest rank.
-const LATEST: u64 = 4294967295;
 
 // ---- the numbers
 
@@ -25,10 +22,9 @@ const LATEST: u64 = 4294967295;
 fn strip_ok(flow: Flow, weight: Weight, length: Length) -> bool
     ensures { result ≡ strip_ok flow.0 weight.0 length.0 }
 {
-    let f = flow.0;
-    let w = weight.0;
-    let n = length.0;
-    (f < 64) & ((1 <= w) & ((w <= 1024) & ((1 <= n) & (n <= 9216))))
+    // five comparisons and no branch: `contains` (tried) proves only by cases of each range
+    (flow.0 < 64)
+        & ((1 <= weight.0) & ((weight.0 <= 1024) & ((1 <= length.0) & (length.0 <= 9216))))
 }
 
 // A length in cells of 64 bytes, rounded up.
@@ -36,7 +32,7 @@ fn cells_of(bytes: u32) -> u32
     requires { bytes ≤ 9216 }
     ensures { result ≡ cells bytes }
 {
-    (bytes + 63) / 64
+    bytes.div_ceil(64)
 }
 
 // The larger of the clock and the last finish, plus cells times step. In 64 bits, so that nothing wraps.
@@ -45,11 +41,7 @@ fn finish_of(clock: u32, last: u32, flow: Flow, weight: Weight, length: Length) 
     ensures { result ≡ finish clock last weight.0 length.0 }
 {
     let cost = cells_of(length.0) * step_of(weight.0);
-    if clock < last {
-        last as u64 + cost as u64
-    } else {
-        clock as u64 + cost as u64
-    }
+    u64::from(clock.max(last)) + u64::from(cost)
 }
 
 // ---- what is noted in the state
@@ -59,15 +51,11 @@ fn note(state: &mut [u32], flow: u32, rank: u32, answer: Answer) -> FairAnswer
     requires { flow + 1 < length state.old }
     ensures { (result ≡ told answer) × (state.new ≡ noted answer flow rank state.old) }
 {
-    match answer {
-        Answer::Done => {
-            let at = flow as usize + 1;
-            state[at] = rank;
-            FairAnswer::Accepted
-        }
-        Answer::Out(e) => FairAnswer::Served(e),
-        Answer::Refused(r) => FairAnswer::Denied(FairRefusal::Queue(r)),
+    let given = answer?;
+    if given.is_none() {
+        state[flow as usize + 1] = rank;
     }
+    Ok(given)
 }
 
 // The clock, where the queue has given an element.
@@ -75,15 +63,11 @@ fn set_clock(state: &mut [u32], answer: Answer) -> FairAnswer
     requires { 0 < length state.old }
     ensures { (result ≡ told answer) × (state.new ≡ timed answer state.old) }
 {
-    match answer {
-        Answer::Done => FairAnswer::Accepted,
-        Answer::Out(e) => {
-            let rank = e.rank.0;
-            state[0] = rank;
-            FairAnswer::Served(e)
-        }
-        Answer::Refused(r) => FairAnswer::Denied(FairRefusal::Queue(r)),
+    let given = answer?;
+    if let Some(e) = given {
+        state[0] = e.rank.0;
     }
+    Ok(given)
 }
 
 // ---- the calls
@@ -101,32 +85,29 @@ pub fn push(
     ensures { reply result (desk state.new store.new) ≡ pushes order levels flow.0 weight.0 length.0 tag.0 (desk state.old store.old) }
 {
     if !strip_ok(flow, weight, length) {
-        return FairAnswer::Denied(FairRefusal::BadStrip);
+        return Err(FairRefusal::BadStrip);
     }
     if state.len() < STATE_WORDS {
-        return FairAnswer::Denied(FairRefusal::Queue(Refusal::BadShape));
+        return Err(FairRefusal::Queue(Refusal::BadShape));
     }
-    let f = flow.0;
-    let at = f as usize + 1;
-    let next = finish_of(state[0], state[at], flow, weight, length);
-    if LATEST < next {
-        return FairAnswer::Denied(FairRefusal::ClockSpent);
-    }
-    let rank = next as u32;
+    let next = finish_of(state[0], state[flow.0 as usize + 1], flow, weight, length);
+    let Ok(rank) = u32::try_from(next) else {
+        return Err(FairRefusal::ClockSpent);
+    };
     let x = Element {
         rank: Rank(rank),
-        tag: tag,
-        length: length,
+        tag,
+        length,
     };
     let answer = tree::push(store, order, levels, x);
-    note(state, f, rank, answer)
+    note(state, flow.0, rank, answer)
 }
 
 pub fn pop(state: &mut [u32], store: &mut [u32], order: usize, levels: usize) -> FairAnswer
     ensures { reply result (desk state.new store.new) ≡ pops order levels (desk state.old store.old) }
 {
     if state.len() < STATE_WORDS {
-        return FairAnswer::Denied(FairRefusal::Queue(Refusal::BadShape));
+        return Err(FairRefusal::Queue(Refusal::BadShape));
     }
     let answer = tree::pop(store, order, levels);
     set_clock(state, answer)
@@ -137,22 +118,17 @@ pub fn reset(state: &mut [u32], store: &[u32], order: usize, levels: usize) -> F
     ensures { reply result (desk state.new store.now) ≡ resets order levels (desk state.old store.now) }
 {
     if state.len() < STATE_WORDS {
-        return FairAnswer::Denied(FairRefusal::Queue(Refusal::BadShape));
+        return Err(FairRefusal::Queue(Refusal::BadShape));
     }
-    match tree::held(store, order, levels) {
-        Count::Unknown(r) => FairAnswer::Denied(FairRefusal::Queue(r)),
-        Count::Held(n) => {
-            if 0 < n {
-                return FairAnswer::Denied(FairRefusal::NotEmpty);
-            }
-            zero_words(state, STATE_WORDS);
-            FairAnswer::Accepted
-        }
+    if 0 < tree::held(store, order, levels)? {
+        return Err(FairRefusal::NotEmpty);
     }
+    zero_words(state, STATE_WORDS);
+    Ok(None)
 }
 
 // The queue's own: no word of the state is read.
-pub fn held(store: &[u32], order: usize, levels: usize) -> Count
+pub fn held(store: &[u32], order: usize, levels: usize) -> Result<u32, Refusal>
     ensures { result ≡ held_count order levels store.now }
 {
     tree::held(store, order, levels)

@@ -1,5 +1,5 @@
 -- The words and the ledger agree after every call: the clock, the finishes and what the store holds. So what a call comes to in the ledger is lawful.
-use Rattle.laws.specs.Prelude.{All, Answer, Bool, Done, Element, Held, List, Out, Pop, Push, Refusal, Refused, Request, [], ◌++◌, ◌+◌, ◌<◌, ◌∙◌, ◌∷◌, ◌≡◌, ◌≤◌, ap, arith, count_of, element, false, get_or, get_or-set_other, get_or-set_same, is-upd, le_of_suc-le-suc, length, length-set, ltb, ltb-false, not-suc-le-zero, refl, set, subst, suc, sum_of, sym, true, upd, zero, ℕ, ℕ_discrete}
+use Rattle.laws.specs.Prelude.{All, Answer, Bool, Element, List, Pop, Push, Refusal, Request, [], ◌++◌, ◌+◌, ◌<◌, ◌∙◌, ◌∷◌, ◌≡◌, ◌≤◌, ap, arith, count_of, element, false, get_or, get_or-set_other, get_or-set_same, is-upd, le_of_suc-le-suc, length, length-set, ltb, ltb-false, not-suc-le-zero, refl, set, subst, suc, sum_of, sym, true, upd, zero, ℕ, ℕ_discrete, Ok, None, Some, Err}
 use Rattle.promise.specs.Prelude.{Least, always, brought, given, hit, leaves, lower}
 use Rattle.tree_model.proofs.Laws.{Kept, call-sum, called-kept, kept-held, kept-least}
 use Rattle.tree_model.specs.Prelude.{Outcome, called, held_count, room, stored_count}
@@ -7,7 +7,7 @@ use Rattle.fair_model.specs.Calls.{blank_state, clock_of, Desk, desk, last_of, n
 use Rattle.fair_model.specs.Ledger.{AllLawful, anew, comes, entry, found, goes, Lawful, listed, Move, moved, no_strip, rank, run, stays, Strip, without, World}
 use Rattle.fair_model.specs.Promise.{Attributed, Call, Entry, fair_queue, move_by, move_of, moves, pop, push, reply_to, reset, Struck}
 use Rattle.fair_model.specs.Ranks.{finish, flows, Good, latest}
-use Rattle.fair_model.specs.declared.FairAnswer.TheVariants.{Served}
+use Rattle.std.specs.Prelude.{Ok, Some}
 use Rattle.fair_model.proofs.Outcomes.{blank-at, blank-length, pop-either, pop-not-done, push-either, push-gives-none, refused-stands, reset-either}
 
 -- ---- what a ledger lists
@@ -67,7 +67,7 @@ module _ (m k : ℕ) where
         (call-sum m k r d.store a.kept f ∙ ap (λ (n : ℕ). n + brought r (called m (suc k) r d.store).answer f) (a.holds f))
 
     -- the queue says no, and everything stands
-    queue-refused : (r : Request) (y : Refusal) → (called m (suc k) r d.store).answer ≡ Refused y → Follows stays s (desk d.state (called m (suc k) r d.store).words)
+    queue-refused : (r : Request) (y : Refusal) → (called m (suc k) r d.store).answer ≡ Err y → Follows stays s (desk d.state (called m (suc k) r d.store).words)
     queue-refused r y e = subst (λ (ws : List ℕ). Follows stays s (desk d.state ws)) (sym (refused-stands m (suc k) r d.store y e)) (still s d a)
 
     -- ---- push
@@ -81,7 +81,7 @@ module _ (m k : ℕ) where
       abbrev o : Outcome
       o = called m (suc k) (Push x) d.store
 
-      came : Good f w n → r ≤ latest → o.answer ≡ Done → Follows (comes f w n t) s (desk (set d.state (suc f) r) o.words)
+      came : Good f w n → r ≤ latest → o.answer ≡ Ok None → Follows (comes f w n t) s (desk (set d.state (suc f) r) o.words)
       unfolding moved
       came good fits e =
           let same : finish s.clock (s.last f) w n ≡ r = same-finish s d a f w n good.known in
@@ -98,14 +98,14 @@ module _ (m k : ℕ) where
                         ((is-upd s.last f (finish s.clock (s.last f) w n)).here ∙ same ∙ sym (get_or-set_same d.state (suc f) r 0 within))
                     | no p ↦ (is-upd s.last f (finish s.clock (s.last f) w n)).else i p ∙ a.last i h ∙ sym (get_or-set_other d.state (suc f) (suc i) r 0 (λ z. p (omega (arith, z))))
                   ];
-                  holds = λ g. omega (arith, sum-as (Push x) Done e g, listed-snoc s.waiting (entry s f w n t) g, ap (λ (v : ℕ). hit (g (element v t n))) same);
+                  holds = λ g. omega (arith, sum-as (Push x) (Ok None) e g, listed-snoc s.waiting (entry s f w n t) g, ap (λ (v : ℕ). hit (g (element v t n))) same);
                 };
           }
 
       taken-follows : Good f w n → r ≤ latest → (b : Answer) → o.answer ≡ b → Follows (move_of (push f w n t) (told b) q) s (desk (noted b f r d.state) o.words)
-      taken-follows good fits Done e = came good fits e
-      taken-follows good fits (Out y) e = absurd (push-gives-none m (suc k) d.store x y e)
-      taken-follows good fits (Refused y) e = queue-refused (Push x) y e
+      taken-follows good fits (Ok None) e = came good fits e
+      taken-follows good fits (Ok (Some y)) e = absurd (push-gives-none m (suc k) d.store x y e)
+      taken-follows good fits (Err y) e = queue-refused (Push x) y e
 
       push-follows : Follows (move_of (push f w n t) (pushes m (suc k) f w n t d).said q) s (pushes m (suc k) f w n t d).next
       push-follows =
@@ -117,7 +117,7 @@ module _ (m k : ℕ) where
       abbrev p : Outcome
       p = called m (suc k) Pop d.store
 
-      went : (e : Element) → p.answer ≡ Out e → Struck (Served e) q s → Follows (goes q) s (desk (set d.state 0 e.rank.0) p.words)
+      went : (e : Element) → p.answer ≡ Ok (Some e) → Struck (Ok (Some e)) q s → Follows (goes q) s (desk (set d.state 0 e.rank.0) p.words)
       unfolding moved
       went e h g =
           let same : rank (found s q) ≡ e.rank.0 = ap (λ (y : Element). y.rank.0) g.1 in
@@ -131,14 +131,14 @@ module _ (m k : ℕ) where
                   long = subst (λ (v : ℕ). state_words ≤ v) (sym (length-set d.state 0 e.rank.0)) a.long;
                   clock = same ∙ sym (get_or-set_same d.state 0 e.rank.0 0 (omega (arith, a.long)));
                   last = λ i l. a.last i l ∙ sym (get_or-set_other d.state 0 (suc i) e.rank.0 0 (λ z. omega arith));
-                  holds = λ f. omega (arith, sum-as Pop (Out e) h f, listed-without q s.waiting f g.0, ap (λ (y : Element). hit (f y)) g.1);
+                  holds = λ f. omega (arith, sum-as Pop (Ok (Some e)) h f, listed-without q s.waiting f g.0, ap (λ (y : Element). hit (f y)) g.1);
                 };
           }
 
       gone-follows : (b : Answer) → p.answer ≡ b → Struck (told b) q s → Follows (move_of pop (told b) q) s (desk (timed b d.state) p.words)
-      gone-follows Done e g = absurd (pop-not-done m (suc k) d.store e)
-      gone-follows (Out y) e g = went y e g
-      gone-follows (Refused y) e g = queue-refused Pop y e
+      gone-follows (Ok None) e g = absurd (pop-not-done m (suc k) d.store e)
+      gone-follows (Ok (Some y)) e g = went y e g
+      gone-follows (Err y) e g = queue-refused Pop y e
 
       pop-follows : Struck (pops m (suc k) d).said q s → Follows (move_of pop (pops m (suc k) d).said q) s (pops m (suc k) d).next
       pop-follows =
@@ -146,10 +146,10 @@ module _ (m k : ℕ) where
           (λ long g. gone-follows p.answer refl g)
 
     -- ---- reset
-    nothing-listed : held_count m (suc k) d.store ≡ Held 0 → s.waiting ≡ []
+    nothing-listed : held_count m (suc k) d.store ≡ Ok 0 → s.waiting ≡ []
     nothing-listed e = listed-none s.waiting (sym (a.holds always) ∙ sym (kept-held m k d.store a.kept).1 ∙ ap count_of e)
 
-    renewed : held_count m (suc k) d.store ≡ Held 0 → Follows anew s (desk (blank_state d.state) d.store)
+    renewed : held_count m (suc k) d.store ≡ Ok 0 → Follows anew s (desk (blank_state d.state) d.store)
     unfolding moved sum_of
     renewed e =
         record {

@@ -1,5 +1,5 @@
 -- EXACTLY: each refusal is given for its causes and no others, and leaves everything, whatever the words.
-use Rattle.laws.specs.Prelude.{Answer, BadPort, BadRank, BadShape, Bool, Damaged, Done, Empty, Exactly, First, Full, Held, Ladder, NoHeap, NoTag, Out, Pop, Push, Refusal, Refused, Request, TooSoon, Unknown, ◌<◌, ◌∙◌, ◌≡◌, ◌≤◌, ap, arith, climb-by, climb-fine, climb-stop, cond, eqb, eqb-false, eqb-true, fails-leb, false, fine, inl, inr, length, means-leb, number_of, pred, refl, refusal_number, rung, stop, subst, sym, true, true≢false, ℕ, ⊎_elim}
+use Rattle.laws.specs.Prelude.{Answer, BadPort, BadRank, BadShape, Bool, Damaged, Empty, Exactly, First, Full, Ladder, NoHeap, NoTag, Pop, Push, Refusal, Request, TooSoon, ◌<◌, ◌∙◌, ◌≡◌, ◌≤◌, ap, arith, climb-by, climb-fine, climb-stop, cond, eqb, eqb-false, eqb-true, fails-leb, false, fine, inl, inr, length, means-leb, number_of, pred, refl, refusal_number, rung, stop, subst, sym, true, true≢false, ℕ, ⊎_elim, Ok, Err, None, Some}
 use native.Mathlib.Nat.{pos_of_ne-zero}
 use Rattle.promise.specs.Prelude.{Clear, IsOut, TableOf, Told, decided, decided-exactly, each-any, ends, ladder, refusal-told, zero-told}
 use Rattle.tree_model.proofs.Exactly as tree
@@ -7,7 +7,7 @@ use Rattle.tree_model.specs.Prelude.{Outcome, called, held_count, held_refusals,
 use Rattle.fair_model.specs.Calls.{answer_number, blank_state, denied, Desk, desk, emptied, fair_number, handed_out, next_element, next_finish, passed_on, pops, pushes, push_table, Reply, reply, resets, state_table, state_words, told}
 use Rattle.fair_model.specs.Promise.{Call, FairKind, fair_queue, fair_refusals, IsServed, pop, push, queued, reset}
 use Rattle.fair_model.specs.Ranks.{latest}
-use Rattle.fair_model.specs.declared.FairAnswer.TheVariants.{Accepted}
+use Rattle.std.specs.Prelude.{Ok, None}
 use Rattle.fair_model.specs.declared.FairRefusal.{FairRefusal}
 use Rattle.fair_model.specs.declared.FairRefusal.TheVariants.{BadStrip, ClockSpent, NotEmpty, Queue}
 use Rattle.fair_model.proofs.Outcomes.{pop-either, push-either, reset-either, strip-means}
@@ -25,9 +25,9 @@ apart BadPort n e low high = omega arith
 apart NoHeap n e low high = omega arith
 
 answer-apart : (a : Answer) (n : ℕ) → number_of a ≡ n → 9 ≤ n → n ≤ 11 → ⊥
-answer-apart Done n e low high = omega arith
-answer-apart (Out x) n e low high = omega arith
-answer-apart (Refused r) n e low high = apart r n e low high
+answer-apart (Ok None) n e low high = omega arith
+answer-apart (Ok (Some x)) n e low high = omega arith
+answer-apart (Err r) n e low high = apart r n e low high
 
 pub fair-told : (x y : FairRefusal) → fair_number x ≡ fair_number y → x ≡ y
 fair-told BadStrip BadStrip e = refl
@@ -48,9 +48,9 @@ fair-told (Queue x) NotEmpty e = absurd (apart x 11 e (omega arith) (omega arith
 fair-told (Queue x) (Queue y) e = ap Queue (refusal-told x y e)
 
 told-number : (a : Answer) → answer_number (told a) ≡ number_of a
-told-number Done = refl
-told-number (Out e) = refl
-told-number (Refused r) = refl
+told-number (Ok None) = refl
+told-number (Ok (Some e)) = refl
+told-number (Err r) = refl
 
 -- ---- the queue's own table
 first-queued : (l : Ladder Refusal) (k : Ladder FairRefusal) (q : Refusal) → First l q → First (queued l k) (Queue q)
@@ -72,7 +72,7 @@ module _ (m levels : ℕ) (d : Desk) where
   left r = denied r d
 
   -- what the queue answers is told on: g is what becomes of its outcome
-  queue-exactly : (r : Request) (g : Outcome → Reply) → ((o : Outcome) → (g o).said ≡ told o.answer) → ((q : Refusal) → g (outcome (Refused q) d.store) ≡ left (Queue q))
+  queue-exactly : (r : Request) (g : Outcome → Reply) → ((o : Outcome) → (g o).said ≡ told o.answer) → ((q : Refusal) → g (outcome (Err q) d.store) ≡ left (Queue q))
       → Exactly says left (g (called m levels r d.store)) (queued (refusals m levels r d.store) fine)
   queue-exactly r g same stood =
       record {
@@ -117,12 +117,12 @@ module _ (m levels : ℕ) (d : Desk) where
       n : ℕ
       n = sum_counts (root_of m d.store)
 
-      empty : (b : Bool) → eqb n 0 ≡ b → Exactly says left (cond b (reply Accepted (desk (blank_state d.state) d.store)) (denied NotEmpty d)) (stop NotEmpty (0 < n) fine)
+      empty : (b : Bool) → eqb n 0 ≡ b → Exactly says left (cond b (reply (Ok None) (desk (blank_state d.state) d.store)) (denied NotEmpty d)) (stop NotEmpty (0 < n) fine)
       empty true e = climb-stop says left fair-told NotEmpty (0 < n) _ fine (inl ((λ h. omega (arith, h, eqb-true n 0 e)), climb-fine says left _ granted))
       empty false e = climb-stop says left fair-told NotEmpty (0 < n) _ fine (inr (pos_of_ne-zero (eqb-false n 0 e), refl))
 
       go : (a : Bool) → shape_ok m levels (length d.store) ≡ a → (b : Bool) → root_ok m levels d.store ≡ b
-          → Exactly says left (emptied (cond a (cond b (Held n) (Unknown Damaged)) (Unknown BadShape)) d) (queued (held_refusals m levels d.store) (stop NotEmpty (0 < n) fine))
+          → Exactly says left (emptied (cond a (cond b (Ok n) (Err Damaged)) (Err BadShape)) d) (queued (held_refusals m levels d.store) (stop NotEmpty (0 < n) fine))
       go false s b o = climb-by says left fair-told (Queue BadShape) _ _ _ (inr ((λ h. true≢false (sym (tree.is-shape m levels (length d.store) h) ∙ s)), refl))
       go true s false o =
           climb-by says left fair-told (Queue BadShape) _ _ _ (inl (
@@ -143,21 +143,21 @@ module _ (m levels : ℕ) (d : Desk) where
   exactly reset = exactly-reset
 
 -- ---- KIND: no call says that it is done and does nothing
-push-kind : (b : Answer) → (number_of b ≡ 0 → b ≡ Done) → answer_number (told b) ≡ 0 → told b ≡ Accepted
+push-kind : (b : Answer) → (number_of b ≡ 0 → b ≡ Ok None) → answer_number (told b) ≡ 0 → told b ≡ Ok None
 push-kind b h e = ap told (h (sym (told-number b) ∙ e))
 
 pop-kind : (b : Answer) → (number_of b ≡ 0 → IsOut b) → answer_number (told b) ≡ 0 → IsServed (told b)
-pop-kind Done h e = h refl
-pop-kind (Out y) h e = tt
-pop-kind (Refused r) h e = absurd (zero-told r (sym e))
+pop-kind (Ok None) h e = h refl
+pop-kind (Ok (Some y)) h e = tt
+pop-kind (Err r) h e = absurd (zero-told r (sym e))
 
 pub fair-kind : (m levels : ℕ) (c : Call) (d : Desk) → answer_number (fair_queue m levels c d).said ≡ 0 → FairKind c (fair_queue m levels c d).said
 unfolding fair_queue
 fair-kind m levels (push f w n t) d =
-    push-either m levels d f w n t (λ (z : Reply). answer_number z.said ≡ 0 → z.said ≡ Accepted) (λ x e. absurd (granted m levels d x (sym e)))
+    push-either m levels d f w n t (λ (z : Reply). answer_number z.said ≡ 0 → z.said ≡ Ok None) (λ x e. absurd (granted m levels d x (sym e)))
     (λ good long fits. push-kind (called m levels (Push (next_element d f w n t)) d.store).answer (tree.kind m levels (Push (next_element d f w n t)) d.store))
 fair-kind m levels pop d =
     pop-either m levels d (λ (z : Reply). answer_number z.said ≡ 0 → IsServed z.said) (λ x e. absurd (granted m levels d x (sym e)))
     (λ long. pop-kind (called m levels Pop d.store).answer (tree.kind m levels Pop d.store))
 fair-kind m levels reset d =
-    reset-either m levels d (λ (z : Reply). answer_number z.said ≡ 0 → z.said ≡ Accepted) (λ x e. absurd (granted m levels d x (sym e))) (λ long e z. refl)
+    reset-either m levels d (λ (z : Reply). answer_number z.said ≡ 0 → z.said ≡ Ok None) (λ x e. absurd (granted m levels d x (sym e))) (λ long e z. refl)

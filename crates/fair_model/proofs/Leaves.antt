@@ -1,23 +1,23 @@
 -- What each call leaves, word by word, whatever the words were: the clock's word, the finishes' words, all else.
-use Rattle.laws.specs.Prelude.{Answer, Done, Element, List, Out, Pop, Push, Refusal, Refused, Request, ◌+◌, ◌<◌, ◌∙◌, ◌≡◌, ◌≤◌, ap, arith, get_or-set_other, get_or-set_same, length, length-drop, length-set, refl, suc, sym, ℕ}
+use Rattle.laws.specs.Prelude.{Answer, Element, List, Pop, Push, Refusal, Request, ◌+◌, ◌<◌, ◌∙◌, ◌≡◌, ◌≤◌, ap, arith, get_or-set_other, get_or-set_same, length, length-drop, length-set, refl, suc, sym, ℕ, Ok, None, Some, Err}
 use Rattle.tree_model.specs.Prelude.{Outcome, called, outcome}
 use Rattle.fair_model.specs.Calls.{blank_state, Desk, desk, handed_out, next_element, next_finish, passed_on, pops, pushes, resets, state_words}
 use Rattle.fair_model.specs.Promise.{PopLeaves, PushLeaves, ResetLeaves}
 use Rattle.fair_model.specs.Ranks.{flows}
-use Rattle.fair_model.specs.declared.FairAnswer.{FairAnswer}
-use Rattle.fair_model.specs.declared.FairAnswer.TheVariants.{Accepted, Denied, Served}
+use Rattle.fair_model.specs.Answers.{FairAnswer}
+use Rattle.std.specs.Prelude.{Ok, None, Err, Some}
 use Rattle.fair_model.specs.declared.FairRefusal.{FairRefusal}
 use Rattle.fair_model.proofs.Outcomes.{blank-at, pop-either, pop-not-done, push-either, push-gives-none, refused-stands, reset-either}
 use Rattle.fair_model.proofs.Slice.{blank-past}
 
 -- ---- answers that are not alike
-served-not : {x : FairRefusal} {e : Element} → Denied x ≡ Served e → ⊥
+served-not : {x : FairRefusal} {e : Element} → ◌≡◌ {A = FairAnswer} (Err x) (Ok (Some e)) → ⊥
 served-not q = let z : ◌≡◌ {A = ℕ} 0 1 = cc in omega arith
 
-accepted-not : {x : FairRefusal} → Denied x ≡ Accepted → ⊥
+accepted-not : {x : FairRefusal} → ◌≡◌ {A = FairAnswer} (Err x) (Ok None) → ⊥
 accepted-not q = let z : ◌≡◌ {A = ℕ} 0 1 = cc in omega arith
 
-same-served : {x y : Element} → ◌≡◌ {A = FairAnswer} (Served x) (Served y) → x ≡ y
+same-served : {x y : Element} → ◌≡◌ {A = FairAnswer} (Ok (Some x)) (Ok (Some y)) → x ≡ y
 same-served q = cc
 
 blank-kept : (st : List ℕ) → state_words ≤ length st → length (blank_state st) ≡ length st
@@ -25,22 +25,22 @@ blank-kept st h = simp length-drop (omega arith)
 
 module _ (m levels : ℕ) (d : Desk) where
   -- refused by the queue, the desk stands
-  desk-stands : (r : Request) (y : Refusal) (ws : List ℕ) → called m levels r d.store ≡ outcome (Refused y) ws → desk d.state ws ≡ d
+  desk-stands : (r : Request) (y : Refusal) (ws : List ℕ) → called m levels r d.store ≡ outcome (Err y) ws → desk d.state ws ≡ d
   desk-stands r y ws e =
       ap (λ (v : List ℕ). desk d.state v) (ap (λ (o : Outcome). o.words) (sym e) ∙ refused-stands m levels r d.store y (ap (λ (o : Outcome). o.answer) e))
 
   -- POP-WORDS
   handed-words : state_words ≤ length d.state → (a : Answer) (ws : List ℕ) → called m levels Pop d.store ≡ outcome a ws → PopLeaves m levels d (handed_out (outcome a ws) d.state)
-  handed-words long Done ws e = absurd (pop-not-done m levels d.store (ap (λ (o : Outcome). o.answer) e))
-  handed-words long (Out x) ws e =
+  handed-words long (Ok None) ws e = absurd (pop-not-done m levels d.store (ap (λ (o : Outcome). o.answer) e))
+  handed-words long (Ok (Some x)) ws e =
       record {
         length = length-set d.state 0 x.rank.0;
         clock = λ y q. get_or-set_same d.state 0 x.rank.0 0 (omega arith) ∙ ap (λ (z : Element). z.rank.0) (same-served q);
         others = λ p h. get_or-set_other d.state 0 p x.rank.0 0 (λ z. omega arith);
-        queue = λ y q. e ∙ ap (λ (z : Element). outcome (Out z) ws) (same-served q);
+        queue = λ y q. e ∙ ap (λ (z : Element). outcome (Ok (Some z)) ws) (same-served q);
         stands = λ y q. absurd (served-not (sym q));
       }
-  handed-words long (Refused y) ws e =
+  handed-words long (Err y) ws e =
       record { length = refl; clock = λ x q. absurd (served-not q); others = λ p h. refl; queue = λ x q. absurd (served-not q); stands = λ x q. desk-stands Pop y ws e }
 
   pub pop-words : PopLeaves m levels d (pops m levels d)
@@ -69,7 +69,7 @@ module _ (m levels : ℕ) (d : Desk) where
 
     passed_words : f < flows → state_words ≤ length d.state → (a : Answer) (ws : List ℕ) → called m levels (Push x) d.store ≡ outcome a ws
         → PushLeaves m levels f x d (passed_on (outcome a ws) f (next_finish d f w n) d.state)
-    passed_words known long Done ws e =
+    passed_words known long (Ok None) ws e =
         let at : suc f ≡ 1 + f = omega arith in
         record {
           length = length-set d.state (suc f) x.rank.0;
@@ -78,8 +78,8 @@ module _ (m levels : ℕ) (d : Desk) where
           queue = λ q. e;
           stands = λ y q. absurd (accepted-not (sym q));
         }
-    passed_words known long (Out y) ws e = absurd (push-gives-none m levels d.store x y (ap (λ (o : Outcome). o.answer) e))
-    passed_words known long (Refused y) ws e =
+    passed_words known long (Ok (Some y)) ws e = absurd (push-gives-none m levels d.store x y (ap (λ (o : Outcome). o.answer) e))
+    passed_words known long (Err y) ws e =
         record { length = refl; finish = λ q. absurd (accepted-not q); others = λ p h. refl; queue = λ q. absurd (accepted-not q); stands = λ z q. desk-stands (Push x) y ws e }
 
     pub push-words : PushLeaves m levels f x d (pushes m levels f w n t d)

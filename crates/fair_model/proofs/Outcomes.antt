@@ -1,12 +1,12 @@
 -- What a call may come to: a refusal that leaves everything, or what the queue makes of what is passed on to it.
-use Rattle.laws.specs.Prelude.{Answer, Bool, Count, Done, Element, Held, List, Means, Out, Pop, Push, Refusal, Refused, Request, Unknown, ◌<◌, ◌∙◌, ◌≡◌, ◌≤◌, ap, arith, cond, drop, eqb, eqb-true, false, get_or, get_or-replicate, leb-true, left_behind, length, length-append, length-replicate, means-and, means-by, means-leb, means-ltb, number_of, refl, replicate, subst, sym, true, ℕ}
+use Rattle.laws.specs.Prelude.{Answer, Bool, Element, List, Means, Pop, Push, Refusal, Request, ◌<◌, ◌∙◌, ◌≡◌, ◌≤◌, ap, arith, cond, drop, eqb, eqb-true, false, get_or, get_or-replicate, leb-true, left_behind, length, length-append, length-replicate, means-and, means-by, means-leb, means-ltb, number_of, refl, replicate, subst, sym, true, ℕ, Result, Ok, Err, None, Some}
 use lib.ListN.{get_or-append}
 use Rattle.promise.specs.Prelude.{IsOut, decided-either, each-any, ends}
 use Rattle.tree_model.proofs.Laws.{exactly, kind}
 use Rattle.tree_model.specs.Prelude.{Outcome, called, held_count, outcome}
 use Rattle.fair_model.specs.Calls.{blank_state, denied, Desk, desk, emptied, handed_out, Long, next_element, next_finish, passed_on, pops, pushes, push_table, Reply, reply, resets, state_table, state_words, strip_ok}
 use Rattle.fair_model.specs.Ranks.{flows, Good, heaviest, latest, longest}
-use Rattle.fair_model.specs.declared.FairAnswer.TheVariants.{Accepted}
+use Rattle.std.specs.Prelude.{Ok, None}
 use Rattle.fair_model.specs.declared.FairRefusal.{FairRefusal}
 use Rattle.fair_model.specs.declared.FairRefusal.TheVariants.{NotEmpty, Queue}
 
@@ -19,20 +19,20 @@ strip-means f w n =
     (λ g. (g.known, (g.some, (g.light, (g.long, g.short)))))
 
 -- a push answers no element, a pop always one: whatever the words
-pub push-gives-none : (m levels : ℕ) (ws : List ℕ) (x e : Element) → (called m levels (Push x) ws).answer ≡ Out e → ⊥
+pub push-gives-none : (m levels : ℕ) (ws : List ℕ) (x e : Element) → (called m levels (Push x) ws).answer ≡ Ok (Some e) → ⊥
 push-gives-none m levels ws x e p =
-    let q : (called m levels (Push x) ws).answer ≡ Done = kind m levels (Push x) ws (rw p) in
+    let q : (called m levels (Push x) ws).answer ≡ (Ok None) = kind m levels (Push x) ws (rw p) in
     let z : ◌≡◌ {A = ℕ} 0 1 = cc in
     omega arith
 
-pub pop-not-done : (m levels : ℕ) (ws : List ℕ) → (called m levels Pop ws).answer ≡ Done → ⊥
+pub pop-not-done : (m levels : ℕ) (ws : List ℕ) → (called m levels Pop ws).answer ≡ Ok None → ⊥
 pop-not-done m levels ws p = subst (λ (a : Answer). IsOut a) p (kind m levels Pop ws (rw p))
 
 -- .. and refused, the queue's words stand
-pub refused-stands : (m levels : ℕ) (r : Request) (ws : List ℕ) (y : Refusal) → (called m levels r ws).answer ≡ Refused y → (called m levels r ws).words ≡ ws
+pub refused-stands : (m levels : ℕ) (r : Request) (ws : List ℕ) (y : Refusal) → (called m levels r ws).answer ≡ Err y → (called m levels r ws).words ≡ ws
 refused-stands m levels r ws y e =
     ap (λ (o : Outcome). o.words)
-    (left_behind (λ (o : Outcome). number_of o.answer) (λ (x : Refusal). outcome (Refused x) ws) (exactly m levels ws r) y (ap number_of e))
+    (left_behind (λ (o : Outcome). number_of o.answer) (λ (x : Refusal). outcome (Err x) ws) (exactly m levels ws r) y (ap number_of e))
 
 module _ (m levels : ℕ) (d : Desk) where
   -- what is so of every refusal, and of a push that is passed on, is so of a push
@@ -51,20 +51,20 @@ module _ (m levels : ℕ) (d : Desk) where
 
   -- a reset that is accepted has found that nothing is held
   pub reset-either : (P : Reply → Type 0) → ((x : FairRefusal) → P (denied x d))
-      → (Long d → held_count m levels d.store ≡ Held 0 → P (reply Accepted (desk (blank_state d.state) d.store))) → P (resets m levels d)
+      → (Long d → held_count m levels d.store ≡ Ok 0 → P (reply (Ok None) (desk (blank_state d.state) d.store))) → P (resets m levels d)
   unfolding resets
   reset-either P refused done =
       decided-either (λ x. denied x d) P (state_table d ends) _ (each-any (λ x. P (denied x d)) refused (state_table d ends))
       (λ c. counted (leb-true state_words (length d.state) c.0) (held_count m levels d.store) refl)
     where
-      none : Long d → (n : ℕ) → held_count m levels d.store ≡ Held n → (b : Bool) → eqb n 0 ≡ b
-          → P (cond b (reply Accepted (desk (blank_state d.state) d.store)) (denied NotEmpty d))
-      none long n e true z = done long (e ∙ ap Held (eqb-true n 0 z))
+      none : Long d → (n : ℕ) → held_count m levels d.store ≡ Ok n → (b : Bool) → eqb n 0 ≡ b
+          → P (cond b (reply (Ok None) (desk (blank_state d.state) d.store)) (denied NotEmpty d))
+      none long n e true z = done long (e ∙ ap Ok (eqb-true n 0 z))
       none long n e false z = refused NotEmpty
 
-      counted : Long d → (h : Count) → held_count m levels d.store ≡ h → P (emptied h d)
-      counted long (Held n) e = none long n e (eqb n 0) refl
-      counted long (Unknown q) e = refused (Queue q)
+      counted : Long d → (h : Result ℕ Refusal) → held_count m levels d.store ≡ h → P (emptied h d)
+      counted long (Ok n) e = none long n e (eqb n 0) refl
+      counted long (Err q) e = refused (Queue q)
 
 -- the state that a reset leaves
 pub blank-at : (st : List ℕ) (j : ℕ) → j < state_words → get_or (blank_state st) j 0 ≡ 0

@@ -1,5 +1,5 @@
 -- The promises of fair ranks over the one-at-a-time tree: from a reset that is accepted, over any list of calls, however served strips are attributed.
-use Rattle.laws.specs.Prelude.{All, Answer, Bool, Done, Element, First, List, Out, Pop, Push, Refusal, Refused, Request, [], ◌*◌, ◌+◌, ◌<◌, ◌∙◌, ◌∷◌, ◌≡◌, ◌≤◌, ◌⊎◌, all_map, and_left, and_right, ap, arith, cond, count_number, count_of, eq-eqb, eqb, eqb-true, false, fine, get_or, get_or-set_other, get_or-set_same, inl, inr, is-upd, le-ltb, length, ltb, not-suc-le-zero, number_of, refl, refusal_number, stop, subst, suc, sum_of, sym, true, upd, zero, ℕ, ℕ_discrete, ⊎_elim}
+use Rattle.laws.specs.Prelude.{All, Answer, Bool, Element, First, List, Pop, Push, Refusal, Request, [], ◌*◌, ◌+◌, ◌<◌, ◌∙◌, ◌∷◌, ◌≡◌, ◌≤◌, ◌⊎◌, all_map, and_left, and_right, ap, arith, cond, count_number, count_of, eq-eqb, eqb, eqb-true, false, fine, get_or, get_or-set_other, get_or-set_same, inl, inr, is-upd, le-ltb, length, ltb, not-suc-le-zero, number_of, refl, refusal_number, stop, subst, suc, sum_of, sym, true, upd, zero, ℕ, ℕ_discrete, ⊎_elim, Ok, None, Some, Err}
 use Rattle.promise.specs.Prelude.{Least, always, hit, lower, same, triple, zero-told}
 use Rattle.tree_model.proofs.Exactly as tree
 use Rattle.tree_model.proofs.Laws.{Kept, kept-held, kept-least, kept-numbers, leaves_kept, many-held, start-kept, stored-holding}
@@ -8,8 +8,8 @@ use Rattle.fair_model.specs.Calls.{clock_of, Desk, desk, last_of, next_element, 
 use Rattle.fair_model.specs.Ledger.{AllLawful, anew, comes, fresh, goes, Lawful, listed, Move, moved, no_strip, rank, stays, Strip, Within, World}
 use Rattle.fair_model.specs.Promise.{Attributed, book, booked, Call, desk_at, Entry, fair_queue, fair_refusals, From, move_by, move_of, moves, Noted, opened, place_by, place_of, pop, push, queued, reset, Runs, served_in, SteadyIn, Struck, StruckIn, world_at}
 use Rattle.fair_model.specs.Ranks.{cells, finish, Good, latest, step}
-use Rattle.fair_model.specs.declared.FairAnswer.{FairAnswer}
-use Rattle.fair_model.specs.declared.FairAnswer.TheVariants.{Accepted, Served}
+use Rattle.fair_model.specs.Answers.{FairAnswer}
+use Rattle.std.specs.Prelude.{Ok, None, Some}
 use Rattle.fair_model.specs.declared.FairRefusal.{FairRefusal}
 use Rattle.fair_model.specs.declared.FairRefusal.TheVariants.{NotEmpty, Queue}
 use Rattle.fair_model.proofs.Agrees.{Agrees, follows, moves-agree, moves-lawful, sum-as}
@@ -24,10 +24,10 @@ stored-le : (m k : ℕ) (ws : List ℕ) (f : Element → Bool) → stored_count 
 unfolding holding
 stored-le m k ws f = omega (arith, stored-holding m k ws f, stored-holding m k ws always, many-held f (suc k) (tree_of m (suc k) (levels_of m (suc k) ws 0 1) 0))
 
-reset-agrees : (m k : ℕ) (d : Desk) → Kept m k d.store → (resets m (suc k) d).said ≡ Accepted → Agrees m k fresh (resets m (suc k) d).next
+reset-agrees : (m k : ℕ) (d : Desk) → Kept m k d.store → (resets m (suc k) d).said ≡ Ok None → Agrees m k fresh (resets m (suc k) d).next
 unfolding sum_of
 reset-agrees m k d kept =
-    reset-either m (suc k) d (λ (z : Reply). z.said ≡ Accepted → Agrees m k fresh z.next) (λ x e. let z : ◌≡◌ {A = ℕ} 0 1 = cc in absurd (omega arith))
+    reset-either m (suc k) d (λ (z : Reply). z.said ≡ Ok None → Agrees m k fresh z.next) (λ x e. let z : ◌≡◌ {A = ℕ} 0 1 = cc in absurd (omega arith))
     (λ long e h. record {
       kept = kept;
       long = blank-length d.state;
@@ -80,14 +80,14 @@ place-right e (x ∷ l) h = go (triple e x.element) refl h (place-right e l)
 
 module _ (m k : ℕ) where
   struck-pop : (s : World) (d : Desk) → Agrees m k s d → (b : Answer) → (called m (suc k) Pop d.store).answer ≡ b → Struck (told b) (place_by (told b) s.waiting) s
-  struck-pop s d a Done e = tt
-  struck-pop s d a (Out x) e = place-right x s.waiting (omega (arith, sum-as m k s d a Pop (Out x) e (triple x), ap hit (triple-self x)))
-  struck-pop s d a (Refused r) e = tt
+  struck-pop s d a (Ok None) e = tt
+  struck-pop s d a (Ok (Some x)) e = place-right x s.waiting (omega (arith, sum-as m k s d a Pop (Ok (Some x)) e (triple x), ap hit (triple-self x)))
+  struck-pop s d a (Err r) e = tt
 
   struck-push : (s : World) (d : Desk) (x : Element) (b : Answer) → (called m (suc k) (Push x) d.store).answer ≡ b → Struck (told b) (place_by (told b) s.waiting) s
-  struck-push s d x Done e = tt
-  struck-push s d x (Out y) e = absurd (push-gives-none m (suc k) d.store x y e)
-  struck-push s d x (Refused r) e = tt
+  struck-push s d x (Ok None) e = tt
+  struck-push s d x (Ok (Some y)) e = absurd (push-gives-none m (suc k) d.store x y e)
+  struck-push s d x (Err r) e = tt
 
   abbrev Fits : World → Reply → Type 0
   Fits s z = Struck z.said (place_by z.said s.waiting) s
@@ -108,22 +108,22 @@ module _ (m k : ℕ) where
 
 -- ---- what holds wherever words and ledger agree and the ledger is in order
 module _ (m k : ℕ) (d : Desk) (s : World) (a : Agrees m k s d) (o : Orderly s) where
-  served-lawful : (e : Element) (q : ℕ) → (pops m (suc k) d).said ≡ Served e → Struck (Served e) q s → Lawful (goes q) s
+  served-lawful : (e : Element) (q : ℕ) → (pops m (suc k) d).said ≡ Ok (Some e) → Struck (Ok (Some e)) q s → Lawful (goes q) s
   unfolding fair_queue
   served-lawful e q p t = subst (λ (z : FairAnswer). Lawful (move_of pop z q) s) p (follows m k s d a (record { call = pop; place = q }) (subst (λ (z : FairAnswer). Struck z q s) (sym p) t)).lawful
 
-  served-least : (e : Element) → (pops m (suc k) d).said ≡ Served e → stored_count (room m (suc k)) d.store (lower e.rank.0) ≡ 0
+  served-least : (e : Element) → (pops m (suc k) d).said ≡ Ok (Some e) → stored_count (room m (suc k)) d.store (lower e.rank.0) ≡ 0
   served-least e =
-      pop-either m (suc k) d (λ (z : Reply). z.said ≡ Served e → stored_count (room m (suc k)) d.store (lower e.rank.0) ≡ 0)
+      pop-either m (suc k) d (λ (z : Reply). z.said ≡ Ok (Some e) → stored_count (room m (suc k)) d.store (lower e.rank.0) ≡ 0)
       (λ x p. let z : ◌≡◌ {A = ℕ} 0 1 = cc in absurd (omega arith)) (λ long. by (called m (suc k) Pop d.store).answer refl)
     where
-      by : (b : Answer) → (called m (suc k) Pop d.store).answer ≡ b → told b ≡ Served e → stored_count (room m (suc k)) d.store (lower e.rank.0) ≡ 0
-      by Done p t = let z : ◌≡◌ {A = ℕ} 0 1 = cc in absurd (omega arith)
-      by (Out y) p t =
+      by : (b : Answer) → (called m (suc k) Pop d.store).answer ≡ b → told b ≡ Ok (Some e) → stored_count (room m (suc k)) d.store (lower e.rank.0) ≡ 0
+      by (Ok None) p t = let z : ◌≡◌ {A = ℕ} 0 1 = cc in absurd (omega arith)
+      by (Ok (Some y)) p t =
           let same : y ≡ e = cc in
           subst (λ (x : Element). stored_count (room m (suc k)) d.store (lower x.rank.0) ≡ 0) same
           (subst (λ (b : Answer). Least (stored_count (room m (suc k)) d.store) Pop b) p (kept-least m k d.store a.kept Pop) refl)
-      by (Refused y) p t = let z : ◌≡◌ {A = ℕ} 0 1 = cc in absurd (omega arith)
+      by (Err y) p t = let z : ◌≡◌ {A = ℕ} 0 1 = cc in absurd (omega arith)
 
   abbrev Limit : Refusal → Type 0
   Limit q = (refusal_number q ≡ 5) ⊎ (refusal_number q ≡ 6) ⊎ (refusal_number q ≡ 7)
@@ -176,12 +176,12 @@ module _ (m k : ℕ) (d : Desk) (s : World) (a : Agrees m k s d) (o : Orderly s)
 -- THE PROMISES. Any order and number of levels that pass the shape, any words to start with; a queue cleared and used by its own requests; a reset that
 -- is accepted; then any calls
 
-start-agrees : (m k : ℕ) (ws : List ℕ) (rs : List Request) (st : List ℕ) → Shape m (suc k) (length ws) → (opened m (suc k) ws rs st).said ≡ Accepted
+start-agrees : (m k : ℕ) (ws : List ℕ) (rs : List Request) (st : List ℕ) → Shape m (suc k) (length ws) → (opened m (suc k) ws rs st).said ≡ Ok None
     → Agrees m k fresh (opened m (suc k) ws rs st).next
 start-agrees m k ws rs st sh ok = reset-agrees m k (desk st (after m (suc k) rs ws)) (leaves_kept m k rs (start m (suc k) ws) (start-kept m k ws sh)) ok
 
 -- ATTRIBUTABLE: any list of calls can be attributed
-pub attributable : (m levels : ℕ) (ws : List ℕ) (rs : List Request) (st : List ℕ) → Shape m levels (length ws) → (opened m levels ws rs st).said ≡ Accepted
+pub attributable : (m levels : ℕ) (ws : List ℕ) (rs : List Request) (st : List ℕ) → Shape m levels (length ws) → (opened m levels ws rs st).said ≡ Ok None
     → (cs : List Call) → Attributed m levels (book m levels cs (opened m levels ws rs st).next fresh) (opened m levels ws rs st).next fresh
 attributable m zero ws rs st sh ok cs = absurd (not-suc-le-zero sh.some)
 attributable m (suc k) ws rs st sh ok cs = book-attributed m k cs (opened m (suc k) ws rs st).next fresh (start-agrees m k ws rs st sh ok)
@@ -220,13 +220,13 @@ runs m zero ws rs st cs h = absurd (not-suc-le-zero h.shape.some)
 runs m (suc k) ws rs st cs h = runs_by m k (desk_at m (suc k) ws rs st cs) (world_at m (suc k) ws rs st cs) (ran m k ws rs st cs h).agrees (ran m k ws rs st cs h).orderly
 
 -- NOTED: whatever the words, an accepted push notes its rank as the flow's last finish, above the one before and above the clock
-pub push-notes : (m levels f w n t : ℕ) (d : Desk) → (pushes m levels f w n t d).said ≡ Accepted → Noted d f (next_finish d f w n) (pushes m levels f w n t d).next.state
+pub push-notes : (m levels f w n t : ℕ) (d : Desk) → (pushes m levels f w n t d).said ≡ Ok None → Noted d f (next_finish d f w n) (pushes m levels f w n t d).next.state
 push-notes m levels f w n t d =
-    push-either m levels d f w n t (λ (z : Reply). z.said ≡ Accepted → Noted d f (next_finish d f w n) z.next.state)
+    push-either m levels d f w n t (λ (z : Reply). z.said ≡ Ok None → Noted d f (next_finish d f w n) z.next.state)
     (λ x e. let z : ◌≡◌ {A = ℕ} 0 1 = cc in absurd (omega arith)) (λ good long fits. by good long (called m levels (Push (next_element d f w n t)) d.store).answer)
   where
-    by : Good f w n → state_words ≤ length d.state → (b : Answer) → told b ≡ Accepted → Noted d f (next_finish d f w n) (noted b f (next_finish d f w n) d.state)
-    by h l Done e =
+    by : Good f w n → state_words ≤ length d.state → (b : Answer) → told b ≡ Ok None → Noted d f (next_finish d f w n) (noted b f (next_finish d f w n) d.state)
+    by h l (Ok None) e =
         let more : 0 < cells n * step w = cost-some f w n h in
         let within : suc f < length d.state = omega (arith, h.known) in
         record {
@@ -235,5 +235,5 @@ push-notes m levels f w n t d =
           ahead = omega (arith, more, finish-is (clock_of d.state) (last_of d.state f) w n);
           clock = get_or-set_other d.state (suc f) 0 (next_finish d f w n) 0 (λ z. omega arith);
         }
-    by h l (Out x) e = let z : ◌≡◌ {A = ℕ} 0 1 = cc in absurd (omega arith)
-    by h l (Refused x) e = let z : ◌≡◌ {A = ℕ} 0 1 = cc in absurd (omega arith)
+    by h l (Ok (Some x)) e = let z : ◌≡◌ {A = ℕ} 0 1 = cc in absurd (omega arith)
+    by h l (Err x) e = let z : ◌≡◌ {A = ℕ} 0 1 = cc in absurd (omega arith)

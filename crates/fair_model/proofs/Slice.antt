@@ -1,11 +1,11 @@
 -- "of a longer one the rest is never touched": no call writes a word of the state behind the last finish, and none reads one.
-use Rattle.laws.specs.Prelude.{Answer, Bool, Count, Done, Held, List, Out, Pop, Push, Refused, Unknown, ◌+◌, ◌-◌, ◌<◌, ◌∙◌, ◌≡◌, ◌≤◌, arith, cond, drop, eqb, false, get_or, get_or-set_other, get_or-set_same, le-leb, leb, length, length-replicate, refl, replicate, set, subst, suc, sym, true, ℕ, ℕ_discrete}
+use Rattle.laws.specs.Prelude.{Answer, Bool, List, Pop, Push, ◌+◌, ◌-◌, ◌<◌, ◌∙◌, ◌≡◌, ◌≤◌, arith, cond, drop, eqb, false, get_or, get_or-set_other, get_or-set_same, le-leb, leb, length, length-replicate, refl, replicate, set, subst, suc, sym, true, ℕ, ℕ_discrete, Result, Refusal, Ok, Err, None, Some}
 use lib.Seq.{get_or-append-add, get_or-drop}
 use Rattle.tree_model.specs.Prelude.{called, held_count}
 use Rattle.fair_model.specs.Calls.{blank_state, denied, Desk, desk, emptied, next_element, next_finish, noted, passed_on, pops, pushes, Reply, reply, resets, state_words, strip_ok, timed}
 use Rattle.fair_model.specs.Promise.{Alike, AlikeReply, Call, fair_queue, pop, push, reset}
 use Rattle.fair_model.specs.Ranks.{latest}
-use Rattle.fair_model.specs.declared.FairAnswer.TheVariants.{Accepted}
+use Rattle.std.specs.Prelude.{Ok, None}
 use Rattle.fair_model.specs.declared.FairRefusal.TheVariants.{BadStrip, ClockSpent, NotEmpty}
 use Rattle.fair_model.proofs.Outcomes.{blank-at, pop-either, push-either, reset-either, strip-means}
 
@@ -19,14 +19,14 @@ blank-past st p h =
     (get_or-append-add (replicate state_words 0) (drop state_words st) (p - 65) 0 ∙ get_or-drop state_words st (p - 65) 0))
 
 noted-past : (a : Answer) (f r : ℕ) (st : List ℕ) (p : ℕ) → suc f < p → get_or (noted a f r st) p 0 ≡ get_or st p 0
-noted-past Done f r st p h = get_or-set_other st (suc f) p r 0 (λ z. omega arith)
-noted-past (Out e) f r st p h = refl
-noted-past (Refused x) f r st p h = refl
+noted-past (Ok None) f r st p h = get_or-set_other st (suc f) p r 0 (λ z. omega arith)
+noted-past (Ok (Some e)) f r st p h = refl
+noted-past (Err x) f r st p h = refl
 
 timed-past : (a : Answer) (st : List ℕ) (p : ℕ) → 0 < p → get_or (timed a st) p 0 ≡ get_or st p 0
-timed-past Done st p h = refl
-timed-past (Out e) st p h = get_or-set_other st 0 p e.rank.0 0 (λ z. omega arith)
-timed-past (Refused x) st p h = refl
+timed-past (Ok None) st p h = refl
+timed-past (Ok (Some e)) st p h = get_or-set_other st 0 p e.rank.0 0 (λ z. omega arith)
+timed-past (Err x) st p h = refl
 
 -- PAST: whatever the words
 pub past-stands : (m levels : ℕ) (c : Call) (d : Desk) (p : ℕ) → state_words ≤ p → get_or (fair_queue m levels c d).next.state p 0 ≡ get_or d.state p 0
@@ -48,14 +48,14 @@ module _ (st vs ws : List ℕ) (long : state_words ≤ length st) (wide : state_
   ]
 
   noted-alike : (a : Answer) (f r : ℕ) → f < 64 → Alike (noted a f r st) (noted a f r vs)
-  noted-alike Done f r h = set-alike (suc f) r (omega arith)
-  noted-alike (Out e) f r h = same
-  noted-alike (Refused x) f r h = same
+  noted-alike (Ok None) f r h = set-alike (suc f) r (omega arith)
+  noted-alike (Ok (Some e)) f r h = same
+  noted-alike (Err x) f r h = same
 
   timed-alike : (a : Answer) → Alike (timed a st) (timed a vs)
-  timed-alike Done = same
-  timed-alike (Out e) = set-alike 0 e.rank.0 (omega arith)
-  timed-alike (Refused x) = same
+  timed-alike (Ok None) = same
+  timed-alike (Ok (Some e)) = set-alike 0 e.rank.0 (omega arith)
+  timed-alike (Err x) = same
 
   push-alike : (m levels f w n t : ℕ) → AlikeReply (pushes m levels f w n t (desk st ws)) (pushes m levels f w n t (desk vs ws))
   unfolding pushes
@@ -86,11 +86,11 @@ module _ (st vs ws : List ℕ) (long : state_words ≤ length st) (wide : state_
   unfolding pops
   pop-alike m levels = rw (le-leb state_words (length st) long, le-leb state_words (length vs) wide) (refl, refl, timed-alike (called m levels Pop ws).answer)
 
-  emptied-alike : (h : Count) → AlikeReply (emptied h (desk st ws)) (emptied h (desk vs ws))
-  emptied-alike (Unknown q) = (refl, refl, same)
-  emptied-alike (Held n) = go (eqb n 0)
+  emptied-alike : (h : Result ℕ Refusal) → AlikeReply (emptied h (desk st ws)) (emptied h (desk vs ws))
+  emptied-alike (Err q) = (refl, refl, same)
+  emptied-alike (Ok n) = go (eqb n 0)
     where
-      go : (b : Bool) → AlikeReply (cond b (reply Accepted (desk (blank_state st) ws)) (denied NotEmpty (desk st ws))) (cond b (reply Accepted (desk (blank_state vs) ws)) (denied NotEmpty (desk vs ws)))
+      go : (b : Bool) → AlikeReply (cond b (reply (Ok None) (desk (blank_state st) ws)) (denied NotEmpty (desk st ws))) (cond b (reply (Ok None) (desk (blank_state vs) ws)) (denied NotEmpty (desk vs ws)))
       go true = (refl, refl, λ p l. blank-at st p l ∙ sym (blank-at vs p l))
       go false = (refl, refl, same)
 

@@ -1,11 +1,11 @@
 -- The calls of fair ranks over the one-at-a-time tree, each a total function of all numbers and words handed in to an answer and all words afterwards.
 use Rattle.std.specs.Prelude.{◌&&◌, ◌++◌, ◌<◌, ◌≤◌}
-use Rattle.laws.specs.Prelude.{Answer, BadShape, Bool, Count, Done, Element, Held, List, Out, Pop, Push, Refused, Unknown, blank, cond, drop, element, eqb, get_or, leb, length, ltb, refusal_number, replicate, set, suc, ℕ}
+use Rattle.laws.specs.Prelude.{Answer, BadShape, Bool, Element, List, Pop, Push, blank, cond, drop, element, eqb, get_or, leb, length, ltb, refusal_number, replicate, set, suc, ℕ, Result, Refusal, Ok, Err, None, Some}
 use Rattle.promise.specs.Prelude.{Step, TableOf, bars, decided, ends, needs, step}
 use Rattle.tree_model.specs.Prelude.{Outcome, called, held_count}
 use Rattle.fair_model.specs.Ranks.{finish, flows, Good, heaviest, latest, longest}
-use Rattle.fair_model.specs.declared.FairAnswer.{FairAnswer}
-use Rattle.fair_model.specs.declared.FairAnswer.TheVariants.{Accepted, Denied, Served}
+use Rattle.fair_model.specs.Answers.{FairAnswer}
+use Rattle.std.specs.Prelude.{Ok, None, Err, Some}
 use Rattle.fair_model.specs.declared.FairRefusal.{FairRefusal}
 use Rattle.fair_model.specs.declared.FairRefusal.TheVariants.{BadStrip, ClockSpent, NotEmpty, Queue}
 
@@ -18,20 +18,19 @@ fair_number (Queue r) = refusal_number r
 
 -- .. and 0 where nothing is refused
 abbrev pub answer_number : FairAnswer → ℕ
-answer_number Accepted = 0
-answer_number (Served e) = 0
-answer_number (Denied r) = fair_number r
+answer_number (Ok o) = 0
+answer_number (Err r) = fair_number r
 
 abbrev pub served_element : FairAnswer → Element
-served_element Accepted = blank
-served_element (Served e) = e
-served_element (Denied r) = blank
+served_element (Ok None) = blank
+served_element (Ok (Some e)) = e
+served_element (Err r) = blank
 
 -- the queue's answer, told on
 abbrev pub told : Answer → FairAnswer
-told Done = Accepted
-told (Out e) = Served e
-told (Refused r) = Denied (Queue r)
+told (Ok None) = Ok None
+told (Ok (Some e)) = Ok (Some e)
+told (Err r) = Err (Queue r)
 
 -- ---- the lent state: the clock, then the last finish of each flow. A shorter slice is refused, of a longer one the rest is never touched
 abbrev pub state_words : ℕ
@@ -63,7 +62,7 @@ reply a d = step a d
 
 -- refused, everything is left
 abbrev pub denied : FairRefusal → Desk → Reply
-denied r d = reply (Denied r) d
+denied r d = reply (Err r) d
 
 -- ---- the rules
 -- "A flow, weight or length outside these limits is refused first"
@@ -80,15 +79,15 @@ next_element d f w n t = element (next_finish d f w n) t n
 
 -- the queue has taken a strip: its finish is its flow's last
 abbrev pub noted : Answer → ℕ → ℕ → List ℕ → List ℕ
-noted Done f r st = set st (suc f) r
-noted (Out e) f r st = st
-noted (Refused n) f r st = st
+noted (Ok None) f r st = set st (suc f) r
+noted (Ok (Some e)) f r st = st
+noted (Err n) f r st = st
 
 -- "the clock becomes the rank of what is popped"
 abbrev pub timed : Answer → List ℕ → List ℕ
-timed Done st = st
-timed (Out e) st = set st 0 e.rank.0
-timed (Refused n) st = st
+timed (Ok None) st = st
+timed (Ok (Some e)) st = set st 0 e.rank.0
+timed (Err n) st = st
 
 abbrev pub passed_on : Outcome → ℕ → ℕ → List ℕ → Reply
 passed_on o f r st = reply (told o.answer) (desk (noted o.answer f r st) o.words)
@@ -113,9 +112,9 @@ abbrev pub push_table : ℕ → ℕ → ℕ → Desk → TableOf FairRefusal
 push_table f w n d = needs BadStrip (strip_ok f w n) (Good f w n) (state_table d (bars ClockSpent (leb (next_finish d f w n) latest) (latest < next_finish d f w n) ends))
 
 -- a reset "is refused ("not empty") while anything is held"; where held is refused, so is the reset
-abbrev pub emptied : Count → Desk → Reply
-emptied (Held n) d = cond (eqb n 0) (reply Accepted (desk (blank_state d.state) d.store)) (denied NotEmpty d)
-emptied (Unknown q) d = denied (Queue q) d
+abbrev pub emptied : Result ℕ Refusal → Desk → Reply
+emptied (Ok n) d = cond (eqb n 0) (reply (Ok None) (desk (blank_state d.state) d.store)) (denied NotEmpty d)
+emptied (Err q) d = denied (Queue q) d
 
 module _ (m levels : ℕ) where
   -- order of tests: 9; a state too short, 1; 10; the queue's own

@@ -5,7 +5,7 @@ use Rattle.promise.specs.Prelude.{answers, leaves}
 use Rattle.fair_model.specs.Calls.{answer_number, Desk, desk, pushes, Reply, resets, served_element}
 use Rattle.fair_model.specs.Promise.{Call, Entry, fair_queue, opened, pop, push, reset, served_in}
 use Rattle.fair_model.specs.Ranks.{step}
-use Rattle.fair_model.specs.declared.FairAnswer.{FairAnswer}
+use Rattle.fair_model.specs.Answers.{FairAnswer}
 
 -- what is said, in numbers: the number, and the rank, tag and length of what is served
 abbrev pub told_fair : FairAnswer → ℕ × ℕ × ℕ × ℕ

@@ -1,13 +1,13 @@
 -- What is promised of fair ranks is said in these words: the table of refusals, a list of calls, and the ledger that goes with it.
 use Rattle.std.specs.Prelude.{◌&&◌, ◌++◌, ◌+◌, ◌<◌, ◌∷◌, ◌≡◌, ◌≤◌, ◌⊎◌}
-use Rattle.laws.specs.Prelude.{All, BadShape, Bool, Done, Element, Ladder, List, Out, Pop, Push, Refusal, Request, [], cond, fine, get_or, leb, length, ltb, refusal_number, rung, stop, suc, take, ℕ}
+use Rattle.laws.specs.Prelude.{All, BadShape, Bool, Element, Ladder, List, Pop, Push, Refusal, Request, [], cond, fine, get_or, leb, length, ltb, refusal_number, rung, stop, suc, take, ℕ, Ok, None, Some}
 use Rattle.promise.specs.Prelude.{Step, leaves, lower, triple}
 use Rattle.tree_model.specs.Prelude.{Shape, after, called, held_refusals, outcome, refusals, room, root_of, stored_count, sum_counts}
 use Rattle.fair_model.specs.Calls.{answer_number, clock_of, Desk, desk, last_of, Long, next_element, next_finish, pops, pushes, Reply, resets, state_ok, state_words, strip_ok}
 use Rattle.fair_model.specs.Ledger.{anew, comes, found, fresh, goes, listed, Move, moved, run, served, stays, Steady, Strip, World}
 use Rattle.fair_model.specs.Ranks.{flows, Good, latest}
-use Rattle.fair_model.specs.declared.FairAnswer.{FairAnswer}
-use Rattle.fair_model.specs.declared.FairAnswer.TheVariants.{Accepted, Denied, Served}
+use Rattle.fair_model.specs.Answers.{FairAnswer}
+use Rattle.std.specs.Prelude.{Ok, None, Err, Some}
 use Rattle.fair_model.specs.declared.FairRefusal.{FairRefusal}
 use Rattle.fair_model.specs.declared.FairRefusal.TheVariants.{BadStrip, ClockSpent, NotEmpty, Queue}
 
@@ -46,14 +46,14 @@ fair_refusals m levels reset d =
 
 -- KIND: of a call that is not refused a push and a reset answer that they are accepted, a pop an element
 abbrev pub IsServed : FairAnswer → Type 0
-IsServed Accepted = ⊥
-IsServed (Served e) = Unit {0}
-IsServed (Denied r) = ⊥
+IsServed (Ok None) = ⊥
+IsServed (Ok (Some e)) = Unit {0}
+IsServed (Err r) = ⊥
 
 abbrev pub FairKind : Call → FairAnswer → Type 0
-FairKind (push f w n t) a = a ≡ Accepted
+FairKind (push f w n t) a = a ≡ Ok None
 FairKind pop a = IsServed a
-FairKind reset a = a ≡ Accepted
+FairKind reset a = a ≡ Ok None
 
 -- ---- the queue below: what a call asks of it, and a list of calls
 abbrev pub passed : Call → Desk → List Request
@@ -73,21 +73,21 @@ pub record Entry : Type 0 where
 
 -- what a call comes to in the ledger, by its answer
 abbrev pub move_of : Call → FairAnswer → ℕ → Move
-move_of (push f w n t) Accepted q = comes f w n t
-move_of (push f w n t) (Served e) q = stays
-move_of (push f w n t) (Denied r) q = stays
-move_of pop Accepted q = stays
-move_of pop (Served e) q = goes q
-move_of pop (Denied r) q = stays
-move_of reset Accepted q = anew
-move_of reset (Served e) q = stays
-move_of reset (Denied r) q = stays
+move_of (push f w n t) (Ok None) q = comes f w n t
+move_of (push f w n t) (Ok (Some e)) q = stays
+move_of (push f w n t) (Err r) q = stays
+move_of pop (Ok None) q = stays
+move_of pop (Ok (Some e)) q = goes q
+move_of pop (Err r) q = stays
+move_of reset (Ok None) q = anew
+move_of reset (Ok (Some e)) q = stays
+move_of reset (Err r) q = stays
 
 -- the ledger strikes out a strip that has the served element: where several have it, any of them
 abbrev pub Struck : FairAnswer → ℕ → World → Type 0
-Struck Accepted q s = Unit {0}
-Struck (Served e) q s = (q < length s.waiting) × ((found s q).element ≡ e)
-Struck (Denied r) q s = Unit {0}
+Struck (Ok None) q s = Unit {0}
+Struck (Ok (Some e)) q s = (q < length s.waiting) × ((found s q).element ≡ e)
+Struck (Err r) q s = Unit {0}
 
 module _ (m levels : ℕ) where
   abbrev pub reply_to : Entry → Desk → Step FairAnswer Desk
@@ -112,9 +112,9 @@ place_of e [] = 0
 place_of e (x ∷ l) = cond (triple e x.element) 0 (suc (place_of e l))
 
 abbrev pub place_by : FairAnswer → List Strip → ℕ
-place_by Accepted l = 0
-place_by (Served e) l = place_of e l
-place_by (Denied r) l = 0
+place_by (Ok None) l = 0
+place_by (Ok (Some e)) l = place_of e l
+place_by (Err r) l = 0
 
 module _ (m levels : ℕ) where
   abbrev pub booked : Call → Desk → World → Entry
@@ -140,7 +140,7 @@ module _ (m levels : ℕ) (ws : List ℕ) (rs : List Request) (st : List ℕ) wh
   -- the reset is accepted, and every served strip is struck out
   pub record From (cs : List Entry) : Type 0 where
     pub shape : Shape m levels (length ws)
-    pub accepted : opened.said ≡ Accepted
+    pub accepted : opened.said ≡ Ok None
     pub attributed : Attributed m levels cs opened.next fresh
 
   -- a stretch: any calls directly after any calls
@@ -171,9 +171,9 @@ pub record Runs (m levels : ℕ) (d : Desk) (s : World) : Type 0 where
   -- UNDAMAGED: of the queue's refusals only 5, 6 and 7 are answered
   pub undamaged : (c : Call) (q : Refusal) → answer_number (fair_queue m levels c d).said ≡ refusal_number q → (refusal_number q ≡ 5) ⊎ (refusal_number q ≡ 6) ⊎ (refusal_number q ≡ 7)
   -- LEAST: what is served has the lowest rank held
-  pub least : (e : Element) → (pops m levels d).said ≡ Served e → stored_count (room m levels) d.store (lower e.rank.0) ≡ 0
+  pub least : (e : Element) → (pops m levels d).said ≡ Ok (Some e) → stored_count (room m levels) d.store (lower e.rank.0) ≡ 0
   -- IN ORDER: no strip of its flow that still waits came before it
-  pub in_order : (e : Element) (q : ℕ) → (pops m levels d).said ≡ Served e → Struck (Served e) q s → All (λ x. x.flow ≡ (found s q).flow → ⊥) (take q s.waiting)
+  pub in_order : (e : Element) (q : ℕ) → (pops m levels d).said ≡ Ok (Some e) → Struck (Ok (Some e)) q s → All (λ x. x.flow ≡ (found s q).flow → ⊥) (take q s.waiting)
 
 -- what an accepted push writes: its rank r is the last finish of flow f, and the clock stands
 pub record Noted (d : Desk) (f r : ℕ) (after : List ℕ) : Type 0 where
@@ -187,26 +187,26 @@ pub record Noted (d : Desk) (f r : ℕ) (after : List ℕ) : Type 0 where
 -- "the clock becomes the rank of what is popped", and no other word of the state changes; the store is what the queue's pop leaves; refused, all stands
 pub record PopLeaves (m levels : ℕ) (d : Desk) (z : Reply) : Type 0 where
   pub length : length z.next.state ≡ length d.state
-  pub clock : (e : Element) → z.said ≡ Served e → get_or z.next.state 0 0 ≡ e.rank.0
+  pub clock : (e : Element) → z.said ≡ Ok (Some e) → get_or z.next.state 0 0 ≡ e.rank.0
   pub others : (p : ℕ) → 1 ≤ p → get_or z.next.state p 0 ≡ get_or d.state p 0
-  pub queue : (e : Element) → z.said ≡ Served e → called m levels Pop d.store ≡ outcome (Out e) z.next.store
-  pub stands : (x : FairRefusal) → z.said ≡ Denied x → z.next ≡ d
+  pub queue : (e : Element) → z.said ≡ Ok (Some e) → called m levels Pop d.store ≡ outcome (Ok (Some e)) z.next.store
+  pub stands : (x : FairRefusal) → z.said ≡ Err x → z.next ≡ d
 
 -- "a reset sets the clock and all finishes to 0", words 0 to 64; what stands behind them and the store are as they were; refused, all stands
 pub record ResetLeaves (d : Desk) (z : Reply) : Type 0 where
   pub length : length z.next.state ≡ length d.state
-  pub zeros : z.said ≡ Accepted → (p : ℕ) → p < 65 → get_or z.next.state p 0 ≡ 0
+  pub zeros : z.said ≡ Ok None → (p : ℕ) → p < 65 → get_or z.next.state p 0 ≡ 0
   pub rest : (p : ℕ) → 65 ≤ p → get_or z.next.state p 0 ≡ get_or d.state p 0
   pub store : z.next.store ≡ d.store
-  pub stands : (x : FairRefusal) → z.said ≡ Denied x → z.next ≡ d
+  pub stands : (x : FairRefusal) → z.said ≡ Err x → z.next ≡ d
 
 -- an accepted push writes its finish at word 1 + f, and no other word of the state; the store is what the queue's push leaves; refused, all stands
 pub record PushLeaves (m levels f : ℕ) (x : Element) (d : Desk) (z : Reply) : Type 0 where
   pub length : length z.next.state ≡ length d.state
-  pub finish : z.said ≡ Accepted → get_or z.next.state (1 + f) 0 ≡ x.rank.0
+  pub finish : z.said ≡ Ok None → get_or z.next.state (1 + f) 0 ≡ x.rank.0
   pub others : (p : ℕ) → (p ≡ 1 + f → ⊥) → get_or z.next.state p 0 ≡ get_or d.state p 0
-  pub queue : z.said ≡ Accepted → called m levels (Push x) d.store ≡ outcome Done z.next.store
-  pub stands : (y : FairRefusal) → z.said ≡ Denied y → z.next ≡ d
+  pub queue : z.said ≡ Ok None → called m levels (Push x) d.store ≡ outcome (Ok None) z.next.store
+  pub stands : (y : FairRefusal) → z.said ≡ Err y → z.next ≡ d
 
 -- ---- of a longer state the rest is never touched
 -- two states that agree on the clock and all finishes

@@ -63,6 +63,5 @@ pub fn step_of(weight: u32) -> u32
     requires { (1 ≤ weight) × (weight ≤ 1024) }
     ensures { result ≡ step weight }
 {
-    let at = (weight - 1) as usize;
-    STEPS[at]
+    STEPS[weight as usize - 1]
 }

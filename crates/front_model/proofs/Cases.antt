@@ -1,5 +1,5 @@
 -- The cases, computed.
-use Rattle.laws.specs.Prelude.{Out, Pop, ◌≡◌, arith, element, refl, untagged, ℕ}
+use Rattle.laws.specs.Prelude.{Pop, ◌≡◌, arith, element, refl, untagged, ℕ, Ok, Some}
 use Rattle.promise.specs.Prelude.{Least, answers, leaves}
 use Rattle.front_model.specs.Cases.{case_equal, case_equal_answers, case_even, case_even_leaves, case_even_one, case_even_one_leaves, case_even_three, case_even_three_leaves, case_front, case_front_answers, case_front_leaves}
 use Rattle.bucket_clock_model.specs.Lists.{coming, many}
@@ -18,7 +18,7 @@ pub case-even-leaves : leaves (fronted 4 100) case_even (fresh 2) ≡ case_even_
 unfolding leaves fronted cycled many coming untagged
 case-even-leaves = refl
 
-pub case-even : (fronted 4 100 Pop case_even_leaves).said ≡ Out (element 1 5 0)
+pub case-even : (fronted 4 100 Pop case_even_leaves).said ≡ Ok (Some (element 1 5 0))
 unfolding fronted many coming
 case-even = refl
 

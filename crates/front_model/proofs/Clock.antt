@@ -1,6 +1,6 @@
 -- The front is a clock: its tests stand for their causes, a machine that has come through any list of cycles passes them, nothing is lost, and every pop
 -- gives the lowest.
-use Rattle.laws.specs.Prelude.{All, Answer, Bool, Element, Idle, List, Pop, Push, Refused, Replace, Request, [], ◌+◌, ◌<◌, ◌∙◌, ◌∷◌, ◌≡◌, ◌≤◌, and-true, ap, arith, blank, eqb-false, false, le-ltb, length, ltb, ltb-true, not, not-suc-le-zero, refl, replicate, runs_idle, subst, suc, sym, true, untagged, zero, ℕ}
+use Rattle.laws.specs.Prelude.{All, Answer, Bool, Element, Idle, List, Pop, Push, Replace, Request, [], ◌+◌, ◌<◌, ◌∙◌, ◌∷◌, ◌≡◌, ◌≤◌, and-true, ap, arith, blank, eqb-false, false, le-ltb, length, ltb, ltb-true, not, not-suc-le-zero, refl, replicate, runs_idle, subst, suc, sym, true, untagged, zero, ℕ, Err}
 use Rattle.strip.proofs.Words.{blank-zeros}
 use Rattle.bucket_clock_model.proofs.Clear.{clear_kept}
 use Rattle.bucket_clock_model.proofs.Counts.{first-high}
@@ -10,7 +10,7 @@ use Rattle.bucket_clock_model.proofs.Flow.{in-machine}
 use Rattle.bucket_clock_model.proofs.Long.{Long, cycle-long}
 use Rattle.bucket_clock_model.proofs.Quiet.{quiet-stages}
 use Rattle.bucket_clock_model.specs.Clock.{late_table}
-use Rattle.bucket_clock_model.specs.declared.Maybe.TheVariants.{None, Some}
+use Rattle.std.specs.Prelude.{None, Some}
 use Rattle.bucket_clock_model.specs.declared.Waiting.{Waiting}
 use Rattle.bucket_clock_model.specs.Desk.{desk_ok, cycle_run, waiting, work_at}
 use Rattle.bucket_clock_model.specs.Lists.{at, coming, first, many, newcomer, taken, takes}
@@ -139,7 +139,7 @@ module _ (k : Lay) (laid : Laid k) where
     -- what the rule lets through is good, and the front has a place where one is taken
     ruled-good : (q : Request) → Good k laid (front_rule k q m).op t × SomeFit (takes (front_rule k q m).op) (word m.front 0)
     ruled-good q =
-        decided-either (λ n. ruling (Refused n) Idle) (λ (g : Ruling Request). Good k laid g.op t × SomeFit (takes g.op) (word m.front 0)) (late_table k.ranks k.nodes q (all_held k m)) (ruling (grants q (place_at m.front 0)) q)
+        decided-either (λ n. ruling (Err n) Idle) (λ (g : Ruling Request). Good k laid g.op t × SomeFit (takes g.op) (word m.front 0)) (late_table k.ranks k.nodes q (all_held k m)) (ruling (grants q (place_at m.front 0)) q)
         (each-any _ (λ n. (good-in Idle (refl, tt), tt)) (late_table k.ranks k.nodes q (all_held k m))) (λ c. (good-in q c, some_in q c))
       where
         some_in : (q : Request) → Clear (late_table k.ranks k.nodes q (all_held k m)) → SomeFit (takes q) (word m.front 0)

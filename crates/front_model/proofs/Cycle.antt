@@ -2,8 +2,8 @@
 use Rattle.laws.specs.Prelude.{Bool, Element, List, Request, [], ◌+◌, ◌<◌, ◌∙◌, ◌∷◌, ◌≡◌, ◌≤◌, ap, arith, dec_lt, false, length, lt-ltb, ltb, ltb-false, ltb-true, min, refl, suc, true, ℕ, ℕ_discrete}
 use Rattle.bucket_model.specs.Prelude.{Sorted}
 use Rattle.promise.specs.Prelude.{always, hit, lower}
-use Rattle.bucket_clock_model.specs.declared.Maybe.{Maybe}
-use Rattle.bucket_clock_model.specs.declared.Maybe.TheVariants.{None, Some}
+use Rattle.std.specs.Prelude.{Option}
+use Rattle.std.specs.Prelude.{None, Some}
 use Rattle.bucket_clock_model.specs.Lists.{arrives, at, but_last, coming, first, last, left, many, newcomer, placed, taken, takes}
 use Rattle.front_model.specs.Front.{due, held, Kept, leak_if, Soon, State, cycled, worked}
 use Rattle.bucket_clock_model.proofs.Counts.{at-le, coming-le, first-high, last-low, last-many, last-sorted, left-many, left-sorted, many-always, moved-coming, moved_length, placed-many, placed-sorted}
@@ -11,10 +11,10 @@ use Rattle.front_model.proofs.Counts.{due-end, moved-due, moved-last}
 
 -- ---- nothing is lost and nothing made, for every test
 
-pub worked-sum : (f : Element → Bool) (t : Bool) (x : Maybe) (s : State) → held f (worked t x s) + at f (taken t s.front) ≡ held f s + at f x
+pub worked-sum : (f : Element → Bool) (t : Bool) (x : Option Element) (s : State) → held f (worked t x s) + at f (taken t s.front) ≡ held f s + at f x
 worked-sum f t x s =
-    let z : Maybe = taken t s.behind in
-    let y : Maybe = arrives s.way z in
+    let z : Option Element = taken t s.behind in
+    let y : Option Element = arrives s.way z in
     omega (arith, placed-many f x (placed y (left t s.front)), placed-many f y (left t s.front), left-many f t s.front, left-many f t s.behind, moved-coming f s.way z)
 
 pub leak-sum : (f : Element → Bool) (b : Bool) (s : State) → held f (leak_if b s) ≡ held f s
@@ -39,7 +39,7 @@ unfolding many
 none-many [] h = refl
 none-many (x ∷ l) h = absurd (omega (arith, h (suc x.rank.0), ap hit (lt-ltb x.rank.0 (suc x.rank.0) (omega arith))))
 
-none-coming : (w : List Maybe) → ((q : ℕ) → coming (lower q) w ≡ 0) → coming always w ≡ 0
+none-coming : (w : List (Option Element)) → ((q : ℕ) → coming (lower q) w ≡ 0) → coming always w ≡ 0
 unfolding coming
 none-coming [] h = refl
 none-coming (None ∷ w) h = omega (arith, none-coming w (λ q. omega (arith, h q)))
@@ -81,11 +81,11 @@ module _ (p c : ℕ) (s : State) (kept : Kept p c s) where
     | no e ↦ omega (arith, at-le (lower q) (first s.front))
   ]
 
-  module _ (t : Bool) (x : Maybe) where
-    abbrev z : Maybe
+  module _ (t : Bool) (x : Option Element) where
+    abbrev z : Option Element
     z = taken t s.behind
 
-    abbrev y : Maybe
+    abbrev y : Option Element
     y = arrives s.way (taken t s.behind)
 
     abbrev v : State

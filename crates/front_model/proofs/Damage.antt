@@ -3,8 +3,8 @@ use Rattle.laws.specs.Prelude.{All, Bool, Element, Idle, List, Means, Request, Z
 use Rattle.strip.proofs.Words.{blank-holds, blank-says}
 use Rattle.bucket_clock_model.proofs.Damage.{desk-means, stages-means}
 use Rattle.bucket_clock_model.specs.Damage.{StagesFit}
-use Rattle.bucket_clock_model.specs.declared.Maybe.{Maybe}
-use Rattle.bucket_clock_model.specs.declared.Maybe.TheVariants.{None, Some}
+use Rattle.std.specs.Prelude.{Option}
+use Rattle.std.specs.Prelude.{None, Some}
 use Rattle.bucket_clock_model.specs.declared.Waiting.{Waiting}
 use Rattle.bucket_clock_model.specs.Desk.{waiting, work_at}
 use Rattle.bucket_clock_model.specs.Links.{bucket_leaves}
@@ -75,7 +75,7 @@ module _ (k : Lay) where
   leaving-hit true r w = refl
   leaving-hit false r w = refl
 
-  placed-length : (y : Maybe) (l : List Element) → length (placed y l) ≡ at always y + length l
+  placed-length : (y : Option Element) (l : List Element) → length (placed y l) ≡ at always y + length l
   placed-length None l = omega arith
   placed-length (Some y) l = insert-length y l ∙ omega arith
 

@@ -1,8 +1,8 @@
 -- Idle cycles, as many as the way is long, bring in all that is on the way.
-use Rattle.laws.specs.Prelude.{Bool, Idle, List, Request, [], ◌++◌, ◌+◌, ◌∙◌, ◌∷◌, ◌≡◌, ◌≤◌, ap, false, length, ltb, refl, replicate, subst, suc, sym, true, zero, ℕ}
+use Rattle.laws.specs.Prelude.{Element, Bool, Idle, List, Request, [], ◌++◌, ◌+◌, ◌∙◌, ◌∷◌, ◌≡◌, ◌≤◌, ap, false, length, ltb, refl, replicate, subst, suc, sym, true, zero, ℕ}
 use mathlib.Core.List.{append_assoc, append-nil}
-use Rattle.bucket_clock_model.specs.declared.Maybe.{Maybe}
-use Rattle.bucket_clock_model.specs.declared.Maybe.TheVariants.{None}
+use Rattle.std.specs.Prelude.{Option}
+use Rattle.std.specs.Prelude.{None}
 use Rattle.bucket_clock_model.specs.Lists.{coming, moved}
 use Rattle.promise.specs.Prelude.{always, leaves}
 use Rattle.front_model.specs.Front.{fresh, fronted, leak_if, State, cycled, worked}
@@ -16,16 +16,16 @@ idle-way k n s = go (ltb k (length (worked false None s).front + coming always (
     go true = refl
     go false = refl
 
-one_more : (j : ℕ) → replicate j None ++ None ∷ [] ≡ replicate (suc j) None
+one_more : (j : ℕ) → ◌≡◌ {A = List (Option Element)} (replicate j None ++ None ∷ []) (replicate (suc j) None)
 one_more zero = refl
-one_more (suc j) = ap (λ (w : List Maybe). None ∷ w) (one_more j)
+one_more (suc j) = ap (λ (w : List (Option Element)). None ∷ w) (one_more j)
 
-drained : (k n : ℕ) (u : List Maybe) (j : ℕ) (s : State) → s.way ≡ u ++ replicate j None → coming always (leaves (fronted k n) (replicate (length u) Idle) s).way ≡ 0
+drained : (k n : ℕ) (u : List (Option Element)) (j : ℕ) (s : State) → s.way ≡ u ++ replicate j None → coming always (leaves (fronted k n) (replicate (length u) Idle) s).way ≡ 0
 unfolding leaves
 drained k n [] j s e = ap (coming always) e ∙ none-way always j
 drained k n (y ∷ u) j s e =
     drained k n u (suc j) (fronted k n Idle s).next
-    (idle-way k n s ∙ ap (λ (w : List Maybe). moved w None) e ∙ append_assoc u (replicate j None) (None ∷ []) ∙ ap (λ (w : List Maybe). u ++ w) (one_more j))
+    (idle-way k n s ∙ ap (λ (w : List (Option Element)). moved w None) e ∙ append_assoc u (replicate j None) (None ∷ []) ∙ ap (λ (w : List (Option Element)). u ++ w) (one_more j))
 
 -- DRAIN: after any list of cycles p idle ones leave nothing on the way
 pub drain : (p c n : ℕ) → 1 ≤ c → (qs : List Request) → coming always (leaves (fronted (p + p + c) n) (replicate p Idle) (leaves (fronted (p + p + c) n) qs (fresh p))).way ≡ 0

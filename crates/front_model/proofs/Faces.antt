@@ -7,8 +7,8 @@ use Rattle.bucket_clock_model.proofs.Last.{after_store}
 use Rattle.bucket_clock_model.proofs.OneStep.{leaving-is}
 use Rattle.bucket_clock_model.specs.Clock.{number_at, out_of}
 use Rattle.bucket_clock_model.specs.Damage.{StagesFit}
-use Rattle.bucket_clock_model.specs.declared.Maybe.{Maybe}
-use Rattle.bucket_clock_model.specs.declared.Maybe.TheVariants.{None, Some}
+use Rattle.std.specs.Prelude.{Option}
+use Rattle.std.specs.Prelude.{None, Some}
 use Rattle.bucket_clock_model.specs.Desk.{rule_now, cycle_run, waiting}
 use Rattle.bucket_clock_model.specs.Lists.{arrives, at, coming, heeded, left, many, moved, newcomer, placed, taken, takes}
 use Rattle.bucket_clock_model.specs.Pipe.{after}
@@ -25,7 +25,7 @@ use Rattle.front_model.proofs.Places.{front-count, front-in, front_long, front-p
 
 -- ---- a leak, as a list and what is handed on
 
-leak-is : (b : Bool) (f : List Element) (w : List Maybe) (l : List Element) → leak_if b (state f w l) ≡ state (stays b f) w (placed (leaked b f) l)
+leak-is : (b : Bool) (f : List Element) (w : List (Option Element)) (l : List Element) → leak_if b (state f w l) ≡ state (stays b f) w (placed (leaked b f) l)
 leak-is true f w l = refl
 leak-is false f w l = refl
 
@@ -39,11 +39,11 @@ asks-some false n e z = true≢false (sym e)
 
 -- ---- ranks and tags, by counting
 
-at_low : (R : ℕ) (x : Maybe) → RankedOne R x → at always x ≤ at (lower R) x
+at_low : (R : ℕ) (x : Option Element) → RankedOne R x → at always x ≤ at (lower R) x
 at_low R None h = omega arith
 at_low R (Some x) h = omega (arith, ap hit (lt-ltb x.rank.0 R h))
 
-low-at : (R : ℕ) (x : Maybe) → at always x ≤ at (lower R) x → RankedOne R x
+low-at : (R : ℕ) (x : Option Element) → at always x ≤ at (lower R) x → RankedOne R x
 low-at R None h = tt
 low-at R (Some x) h = go (ltb x.rank.0 R) refl h
   where
@@ -51,7 +51,7 @@ low-at R (Some x) h = go (ltb x.rank.0 R) refl h
     go true e h = ltb-true x.rank.0 R e
     go false e h = absurd (omega arith)
 
-at-most : (f : Element → Bool) (x : Maybe) → at f x ≤ at always x
+at-most : (f : Element → Bool) (x : Option Element) → at f x ≤ at always x
 at-most f None = omega arith
 at-most f (Some x) = hit-le (f x)
 
@@ -60,7 +60,7 @@ module _ (k : Lay) (laid : Laid k) where
   K = place_count k
 
   -- the state that the words stand for
-  abbrev pub state_of : FrontDesk → (ℕ → List Element) → List Maybe → State
+  abbrev pub state_of : FrontDesk → (ℕ → List Element) → List (Option Element) → State
   state_of m ago v = state (front_in m.front) v (ago 0)
 
   -- what is so of every state: ranks that there are, tags, and room
@@ -72,7 +72,7 @@ module _ (k : Lay) (laid : Laid k) where
   pub record Faces (m : FrontDesk) : Type 0 where
     pub was : ℕ → Store
     pub ago : ℕ → List Element
-    pub later : List Maybe
+    pub later : List (Option Element)
     pub shaped : FrontShaped k m
     pub behind : QueueKept k laid m.behind was ago later
     pub kept : Kept k.storeys 1 (state_of m ago later)
@@ -95,7 +95,7 @@ module _ (k : Lay) (laid : Laid k) where
     abbrev L : List Element
     L = x.ago 0
 
-    abbrev v : List Maybe
+    abbrev v : List (Option Element)
     v = x.later
 
     abbrev pub T : State
@@ -116,14 +116,14 @@ module _ (k : Lay) (laid : Laid k) where
     all_held_lem = omega (arith, way-is, behind-is, front-size, many-always F, many-always L)
 
     -- what leaves the bucket stage is what arrives
-    y-is : (z : Maybe) → leaving_now k m.behind ≡ arrives x.later z
+    y-is : (z : Option Element) → leaving_now k m.behind ≡ arrives x.later z
     unfolding leaving_now cycle_run plain_with
     y-is z =
         sym (leaving-is k S Idle m.behind laid.deep) ∙ cycle-leaves k laid Idle m.behind x.was x.ago v x.behind
         ∙ arrives-any v None z (omega (arith, x.kept.long, laid.deep))
 
     module _ (q : Request) (good : Good q T) where
-      abbrev z : Maybe
+      abbrev z : Option Element
       z = taken (takes q) (x.ago 0)
 
       abbrev a : Bool
@@ -153,7 +153,7 @@ module _ (k : Lay) (laid : Laid k) where
       unfolding cycled
       cycled-is =
           let f1 : List Element = placed (newcomer q) (placed (arrives v z) (left (takes q) F)) in
-          let fe : f1 ≡ f = ap (λ (y : Maybe). placed (newcomer q) (placed y (left (takes q) F))) (sym (y-is z)) in
+          let fe : f1 ≡ f = ap (λ (y : Option Element). placed (newcomer q) (placed y (left (takes q) F))) (sym (y-is z)) in
           let be : ltb K (length f1 + coming always (moved v z)) ≡ b = ap₂ (λ (g : List Element) (n : ℕ). ltb K (length g + n)) fe (sym count-is) in
           ap₂ (λ (g : List Element) (c : Bool). leak_if c (state g (moved v z) (left (takes q) L))) fe be ∙ leak-is b f (moved v z) (left (takes q) L)
 
@@ -198,7 +198,7 @@ module _ (k : Lay) (laid : Laid k) where
           still : left (takes q) L ≡ L
           still = sym (asks-left (takes q) L) ∙ ap (λ (c : Bool). left c L) (sym a-is ∙ e)
 
-          go : (y : Maybe) → leaked b f ≡ y → RoomFor y (length L) k.nodes
+          go : (y : Option Element) → leaked b f ≡ y → RoomFor y (length L) k.nodes
           go None p = tt
           go (Some y) p = omega (arith, decent-next.room, leak-many always, ap (at always) p, ap (many always) still, many-always L)
 
@@ -216,7 +216,7 @@ module _ (k : Lay) (laid : Laid k) where
 
       list-is : (plain k (ask u) (x.ago 0)).next ≡ placed (leaked b f) (left (takes q) (x.ago 0))
       list-is =
-          sym alike.next ∙ ap₂ (λ (t : Bool) (y : Maybe). placed y (left t L)) (takes-handed a (leaked b f)) (newcomer-handed a (leaked b f))
+          sym alike.next ∙ ap₂ (λ (t : Bool) (y : Option Element). placed y (left t L)) (takes-handed a (leaked b f)) (newcomer-handed a (leaked b f))
           ∙ ap (λ (t : Bool). placed (leaked b f) (left t L)) a-is ∙ ap (placed (leaked b f)) (asks-left (takes q) L)
 
       way_next : moved x.later (out_of (plain k (ask u) (x.ago 0)).said) ≡ moved x.later z
@@ -246,7 +246,7 @@ module _ (k : Lay) (laid : Laid k) where
       unfolding front_run faced
       faces-next =
           let queue : QueueKept k laid (cycle_run k u m.behind).next (after_store (called k (ask u) (x.was 0)).next x.was) ago1 (moved v z) =
-          subst (λ (w : List Maybe). QueueKept k laid (cycle_run k u m.behind).next (after_store (called k (ask u) (x.was 0)).next x.was) ago1 w) way_next
+          subst (λ (w : List (Option Element)). QueueKept k laid (cycle_run k u m.behind).next (after_store (called k (ask u) (x.was 0)).next x.was) ago1 w) way_next
           (subst (λ (r : Request). QueueKept k laid (cycle_run k r m.behind).next (after_store (called k (ask u) (x.was 0)).next x.was) ago1 (moved v (out_of (plain k (ask u) L).said))) u-sent
           (cycle-kept k laid u m.behind x.was x.ago v x.behind)) in
           record {

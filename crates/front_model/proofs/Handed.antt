@@ -4,8 +4,8 @@ use Rattle.bucket_clock_model.proofs.Counts.{coming-end, hit-le}
 use Rattle.bucket_clock_model.proofs.Pipe.{moved-end}
 use Rattle.bucket_clock_model.proofs.Worked.{Stands}
 use Rattle.bucket_clock_model.specs.Clock.{number_at}
-use Rattle.bucket_clock_model.specs.declared.Maybe.{Maybe}
-use Rattle.bucket_clock_model.specs.declared.Maybe.TheVariants.{None, Some}
+use Rattle.std.specs.Prelude.{Option}
+use Rattle.std.specs.Prelude.{None, Some}
 use Rattle.bucket_clock_model.specs.declared.Waiting.{Waiting}
 use Rattle.bucket_clock_model.specs.Desk.{Desk}
 use Rattle.bucket_clock_model.specs.Lists.{arrives, at, coming, left, many, moved, newcomer, taken, takes}
@@ -22,7 +22,7 @@ unfolding many
 many-le f [] = omega arith
 many-le f (x ∷ l) = omega (arith, hit-le (f x), many-le f l)
 
-pub coming-le : (f : Element → Bool) (w : List Maybe) → coming f w ≤ coming always w
+pub coming-le : (f : Element → Bool) (w : List (Option Element)) → coming f w ≤ coming always w
 unfolding coming
 coming-le f [] = omega arith
 coming-le f (None ∷ w) = omega (arith, coming-le f w)
@@ -45,20 +45,20 @@ asks-hit true (x ∷ l) = rw (ne_eqb (suc (length l)) 0 (λ e. omega arith))
 
 -- ---- what is handed
 
-pub takes-handed : (a : Bool) (x : Maybe) → takes (handed a x) ≡ a
+pub takes-handed : (a : Bool) (x : Option Element) → takes (handed a x) ≡ a
 takes-handed true None = refl
 takes-handed true (Some x) = refl
 takes-handed false None = refl
 takes-handed false (Some x) = refl
 
-pub newcomer-handed : (a : Bool) (x : Maybe) → newcomer (handed a x) ≡ x
+pub newcomer-handed : (a : Bool) (x : Option Element) → newcomer (handed a x) ≡ x
 newcomer-handed true None = refl
 newcomer-handed true (Some x) = refl
 newcomer-handed false None = refl
 newcomer-handed false (Some x) = refl
 
 -- a rank that there is, where there is one
-abbrev pub RankedOne : ℕ → Maybe → Type 0
+abbrev pub RankedOne : ℕ → Option Element → Type 0
 RankedOne R None = Unit {0}
 RankedOne R (Some x) = x.rank.0 < R
 
@@ -67,12 +67,12 @@ hit-off true e = absurd (omega arith)
 hit-off false e = refl
 
 -- room for one more, where there is one
-abbrev pub RoomFor : Maybe → ℕ → ℕ → Type 0
+abbrev pub RoomFor : Option Element → ℕ → ℕ → Type 0
 RoomFor None h n = Unit {0}
 RoomFor (Some x) h n = h < n
 
 -- what is handed on is refused by no test of a request
-pub handed-fine : (R n h : ℕ) (a : Bool) (x : Maybe) → (a ≡ true → h ≡ 0 → ⊥) → RankedOne R x → at untagged x ≡ 0 → (a ≡ false → RoomFor x h n) → number_at R n (handed a x) h ≡ 0
+pub handed-fine : (R n h : ℕ) (a : Bool) (x : Option Element) → (a ≡ true → h ≡ 0 → ⊥) → RankedOne R x → at untagged x ≡ 0 → (a ≡ false → RoomFor x h n) → number_at R n (handed a x) h ≡ 0
 handed-fine R n h true None some r t room = rw (ne_eqb h 0 (some refl)) refl
 handed-fine R n h true (Some x) some r t room = rw (lt-ltb x.rank.0 R r, hit-off (untagged x) t, ne_eqb h 0 (some refl)) refl
 handed-fine R n h false None some r t room = refl
@@ -80,7 +80,7 @@ handed-fine R n h false (Some x) some r t room = rw (lt-ltb x.rank.0 R r, hit-of
 
 -- ---- on the way
 
-pub arrives-any : (v : List Maybe) (a b : Maybe) → 1 ≤ length v → arrives v a ≡ arrives v b
+pub arrives-any : (v : List (Option Element)) (a b : Option Element) → 1 ≤ length v → arrives v a ≡ arrives v b
 arrives-any [] a b h = absurd (omega arith)
 arrives-any (y ∷ v) a b h = refl
 
@@ -91,7 +91,7 @@ fit-some d w true (x ∷ l) f = refl
 
 module _ (k : Lay) where
   -- as many are on the way as records take
-  pub coming-is : (e d : ℕ) (m : Desk) (P : Pipe d) (ago : ℕ → List Element) (v : List Maybe) → Stands k e d m P → Shows d P ago v → coming always v ≡ on_way d m.records e
+  pub coming-is : (e d : ℕ) (m : Desk) (P : Pipe d) (ago : ℕ → List Element) (v : List (Option Element)) → Stands k e d m P → Shows d P ago v → coming always v ≡ on_way d m.records e
   unfolding coming on_way
   coming-is e zero m P ago v st h = ap (coming always) h.1
   coming-is e (suc d) m P ago v st h =
@@ -104,14 +104,14 @@ module _ (k : Lay) where
       )
 
   -- .. and after the cycle, but for what is asked for in it, as all but the last take
-  ahead-is : (e d : ℕ) (m : Desk) (P : Pipe (suc d)) (ago : ℕ → List Element) (v : List Maybe) (z : Maybe) → Stands k e (suc d) m P → Shows (suc d) P ago v → coming always (moved v z) ≡ at always z + on_way d m.records e
+  ahead-is : (e d : ℕ) (m : Desk) (P : Pipe (suc d)) (ago : ℕ → List Element) (v : List (Option Element)) (z : Option Element) → Stands k e (suc d) m P → Shows (suc d) P ago v → coming always (moved v z) ≡ at always z + on_way d m.records e
   unfolding coming on_way
   ahead-is e zero m P ago v z st h =
-      ap (λ (w : List Maybe). coming always (moved w z)) h.way ∙ ap (coming always) (moved-end h.older (taken (takes P.0.does) (ago 1)) z)
-      ∙ ap (λ (w : List Maybe). coming always (moved w (taken (takes P.0.does) (ago 1)) ++ z ∷ [])) h.rest.1 ∙ omega arith
+      ap (λ (w : List (Option Element)). coming always (moved w z)) h.way ∙ ap (coming always) (moved-end h.older (taken (takes P.0.does) (ago 1)) z)
+      ∙ ap (λ (w : List (Option Element)). coming always (moved w (taken (takes P.0.does) (ago 1)) ++ z ∷ [])) h.rest.1 ∙ omega arith
   ahead-is e (suc d) m P ago v z st h =
-      let a : Maybe = taken (takes P.0.does) (ago 1) in
-      ap (λ (w : List Maybe). coming always (moved w z)) h.way ∙ ap (coming always) (moved-end h.older a z) ∙ coming-end always (moved h.older a) z
+      let a : Option Element = taken (takes P.0.does) (ago 1) in
+      ap (λ (w : List (Option Element)). coming always (moved w z)) h.way ∙ ap (coming always) (moved-end h.older a z) ∙ coming-end always (moved h.older a) z
       ∙ omega (
         arith,
         ahead-is (suc e) d m P.1 (λ i. ago (suc i)) h.older a st.2 h.rest,
@@ -119,6 +119,6 @@ module _ (k : Lay) where
         ap (λ (u : Waiting). hit (takes u.does)) st.1,
       )
 
-  pub ahead-at : (S : ℕ) (m : Desk) (P : Pipe S) (ago : ℕ → List Element) (v : List Maybe) (z : Maybe) → 1 ≤ S → Stands k 0 S m P → Shows S P ago v → coming always (moved v z) ≡ at always z + on_way (pred S) m.records 0
+  pub ahead-at : (S : ℕ) (m : Desk) (P : Pipe S) (ago : ℕ → List Element) (v : List (Option Element)) (z : Option Element) → 1 ≤ S → Stands k 0 S m P → Shows S P ago v → coming always (moved v z) ≡ at always z + on_way (pred S) m.records 0
   ahead-at zero m P ago v z h st s = absurd (omega arith)
   ahead-at (suc d) m P ago v z h st s = ahead-is 0 d m P ago v z st s

@@ -1,5 +1,5 @@
 -- What is promised of the front on its words.
-use Rattle.laws.specs.Prelude.{Answer, BadRank, BadShape, Bool, Damaged, Done, Element, Empty, Full, Idle, List, NoTag, Out, Pop, Push, Refused, Replace, Request, [], ◌*◌, ◌+◌, ◌<◌, ◌^◌, ◌∙◌, ◌≡◌, ◌≤◌, ap, arith, cond, cond_both, element, eqb, false, length, ltb, map, not, number_of, refl, sym, true, untagged, ℕ}
+use Rattle.laws.specs.Prelude.{Answer, BadRank, BadShape, Bool, Damaged, Element, Empty, Full, Idle, List, NoTag, Pop, Push, Replace, Request, [], ◌*◌, ◌+◌, ◌<◌, ◌^◌, ◌∙◌, ◌≡◌, ◌≤◌, ap, arith, cond, cond_both, element, eqb, false, length, ltb, map, not, number_of, refl, sym, true, untagged, ℕ, Ok, None, Some, Err}
 use Rattle.agreement.proofs.Ranks.{ranks_by, whole-empty}
 use Rattle.agreement.specs.Plain.{number_rank, plainly_by}
 use Rattle.bucket_clock_model.proofs.OneStep.{run-rest}
@@ -68,19 +68,19 @@ module _ (k : Lay) (laid : Laid k) where
   number-of m Idle = refl
   number-of m (Push y) = push (ltb y.rank.0 k.ranks) (untagged y) (ltb (all_held k m) k.nodes)
     where
-      push : (b u r : Bool) → number_of (cond {A = Ruling Request} b (cond u (ruling (Refused NoTag) Idle) (cond r (ruling Done (Push y)) (ruling (Refused Full) Idle))) (ruling (Refused BadRank) Idle)).answer ≡ cond (not b) 4 (cond u 7 (cond r 0 5))
+      push : (b u r : Bool) → number_of (cond {A = Ruling Request} b (cond u (ruling (Err NoTag) Idle) (cond r (ruling (Ok None) (Push y)) (ruling (Err Full) Idle))) (ruling (Err BadRank) Idle)).answer ≡ cond (not b) 4 (cond u 7 (cond r 0 5))
       push true true r = refl
       push true false true = refl
       push true false false = refl
       push false u r = refl
   number-of m Pop = pop (eqb (all_held k m) 0)
     where
-      pop : (b : Bool) → number_of (cond {A = Ruling Request} b (ruling (Refused Empty) Idle) (ruling (Out (place_at m.front 0)) Pop)).answer ≡ cond b 6 0
+      pop : (b : Bool) → number_of (cond {A = Ruling Request} b (ruling (Err Empty) Idle) (ruling (Ok (Some (place_at m.front 0))) Pop)).answer ≡ cond b 6 0
       pop true = refl
       pop false = refl
   number-of m (Replace y) = swap (ltb y.rank.0 k.ranks) (untagged y) (eqb (all_held k m) 0)
     where
-      swap : (b u r : Bool) → number_of (cond {A = Ruling Request} b (cond u (ruling (Refused NoTag) Idle) (cond r (ruling (Refused Empty) Idle) (ruling (Out (place_at m.front 0)) (Replace y)))) (ruling (Refused BadRank) Idle)).answer ≡ cond (not b) 4 (cond u 7 (cond r 6 0))
+      swap : (b u r : Bool) → number_of (cond {A = Ruling Request} b (cond u (ruling (Err NoTag) Idle) (cond r (ruling (Err Empty) Idle) (ruling (Ok (Some (place_at m.front 0))) (Replace y)))) (ruling (Err BadRank) Idle)).answer ≡ cond (not b) 4 (cond u 7 (cond r 6 0))
       swap true true r = refl
       swap true false true = refl
       swap true false false = refl
@@ -93,9 +93,9 @@ module _ (k : Lay) (laid : Laid k) where
   as-pop : (y : Element) (m : FrontDesk) → Faces k laid m → number_of (queue (Replace y) m).said ≡ 0 → (queue (Replace y) m).said ≡ (queue Pop m).said
   as-pop y m x e = said-is (Replace y) m x ∙ go (ltb y.rank.0 k.ranks) (untagged y) (eqb (all_held k m) 0) (ap number_of (sym (said-is (Replace y) m x)) ∙ e) ∙ sym (said-is Pop m x)
     where
-      go : (b u r : Bool) → number_of (cond {A = Ruling Request} b (cond u (ruling (Refused NoTag) Idle) (cond r (ruling (Refused Empty) Idle) (ruling (Out (place_at m.front 0)) (Replace y)))) (ruling (Refused BadRank) Idle)).answer ≡ 0
-          → (cond {A = Ruling Request} b (cond u (ruling (Refused NoTag) Idle) (cond r (ruling (Refused Empty) Idle) (ruling (Out (place_at m.front 0)) (Replace y)))) (ruling (Refused BadRank) Idle)).answer
-          ≡ (cond {A = Ruling Request} r (ruling (Refused Empty) Idle) (ruling (Out (place_at m.front 0)) Pop)).answer
+      go : (b u r : Bool) → number_of (cond {A = Ruling Request} b (cond u (ruling (Err NoTag) Idle) (cond r (ruling (Err Empty) Idle) (ruling (Ok (Some (place_at m.front 0))) (Replace y)))) (ruling (Err BadRank) Idle)).answer ≡ 0
+          → (cond {A = Ruling Request} b (cond u (ruling (Err NoTag) Idle) (cond r (ruling (Err Empty) Idle) (ruling (Ok (Some (place_at m.front 0))) (Replace y)))) (ruling (Err BadRank) Idle)).answer
+          ≡ (cond {A = Ruling Request} r (ruling (Err Empty) Idle) (ruling (Ok (Some (place_at m.front 0))) Pop)).answer
       go true true r e = absurd (omega arith)
       go true false true e = absurd (omega arith)
       go true false false e = refl

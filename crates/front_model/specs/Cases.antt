@@ -1,7 +1,7 @@
 -- Cases of the front, to be computed. These are definitions.
 use Rattle.std.specs.Prelude.{◌∷◌}
-use Rattle.laws.specs.Prelude.{Answer, Done, Idle, List, Out, Pop, Push, Replace, Request, [], element}
-use Rattle.bucket_clock_model.specs.declared.Maybe.TheVariants.{None, Some}
+use Rattle.laws.specs.Prelude.{Answer, Idle, List, Pop, Push, Replace, Request, [], element, Ok, None, Some}
+use Rattle.std.specs.Prelude.{None, Some}
 use Rattle.front_model.specs.Front.{State, state}
 
 -- the rules' table: two cycles of way, five places; pushes of 10, 20, .. 60, then pop, push 5, pop, replace 70, idle
@@ -12,8 +12,8 @@ case_front =
 
 abbrev pub case_front_answers : List Answer
 case_front_answers =
-    Done ∷ Done ∷ Done ∷ Done ∷ Done ∷ Done
-    ∷ Out (element 10 1 0) ∷ Done ∷ Out (element 5 7 0) ∷ Out (element 20 2 0) ∷ Done ∷ []
+    (Ok None) ∷ (Ok None) ∷ (Ok None) ∷ (Ok None) ∷ (Ok None) ∷ (Ok None)
+    ∷ Ok (Some (element 10 1 0)) ∷ (Ok None) ∷ Ok (Some (element 5 7 0)) ∷ Ok (Some (element 20 2 0)) ∷ (Ok None) ∷ []
 
 abbrev pub case_front_leaves : State
 case_front_leaves = state (element 30 3 0 ∷ element 40 4 0 ∷ element 50 5 0 ∷ element 60 6 0 ∷ element 70 8 0 ∷ []) (None ∷ None ∷ []) []
@@ -51,4 +51,4 @@ case_equal =
 
 abbrev pub case_equal_answers : List Answer
 case_equal_answers =
-    Done ∷ Done ∷ Done ∷ Done ∷ Out (element 0 1 0) ∷ Out (element 0 2 0) ∷ Out (element 0 3 0) ∷ Out (element 0 6 0) ∷ []
+    (Ok None) ∷ (Ok None) ∷ (Ok None) ∷ (Ok None) ∷ Ok (Some (element 0 1 0)) ∷ Ok (Some (element 0 2 0)) ∷ Ok (Some (element 0 3 0)) ∷ Ok (Some (element 0 6 0)) ∷ []

@@ -2,9 +2,9 @@
 -- that they leave.
 -- These are definitions, and the contracts cite them.
 use Rattle.std.specs.Prelude.{◌%◌, ◌&&◌, ◌*◌, ◌+◌, ◌/◌, ◌∷◌}
-use Rattle.laws.specs.Prelude.{BadShape, Bool, Count, Damaged, Done, Element, Held, Idle, List, Refused, Request, Unknown, [], blank, cond, element_in, element_numbers, eqb, false, get_or, is_blank, leb, length, ltb, not, pred, suc, true, zero, ℕ}
+use Rattle.laws.specs.Prelude.{BadShape, Bool, Damaged, Element, Idle, List, Request, [], blank, cond, element_in, element_numbers, eqb, false, get_or, is_blank, leb, length, ltb, not, pred, suc, true, zero, ℕ, Result, Refusal, Ok, Err, None}
 use Rattle.bucket_clock_model.specs.Clock.{late_table}
-use Rattle.bucket_clock_model.specs.declared.Maybe.{Maybe}
+use Rattle.std.specs.Prelude.{Option}
 use Rattle.bucket_clock_model.specs.declared.Waiting.{Waiting}
 use Rattle.bucket_clock_model.specs.Desk as clock
 use Rattle.bucket_clock_model.specs.Desk.{Desk, desk_ok, stages_ok, cycle_run, waiting, work_at}
@@ -75,7 +75,7 @@ all_held k m = word m.front 0 + on_way k.storeys m.behind.records 0 + behind_cou
 abbrev pub last_work : Lay → Desk → Waiting
 last_work k m = work_at m.records (pred k.storeys)
 
-unfoldable pub leaving_now : Lay → Desk → Maybe
+unfoldable pub leaving_now : Lay → Desk → Option Element
 leaving_now k m = bucket_leaves k (takes (last_work k m).does) (last_work k m).way m.words
 
 -- what a request comes to at the front
@@ -98,7 +98,7 @@ front_run k q m = let x = faced k q m in front_desk (front_of k x.front m.front)
 
 -- "4, 7, then 5 (push, held is N) or 6 (held is 0)"; a pop and a replace answer place 0 "as it stands at the cycle's start"
 abbrev pub front_rule : Lay → Request → FrontDesk → Ruling Request
-front_rule k q m = decided (λ n. ruling (Refused n) Idle) (late_table k.ranks k.nodes q (all_held k m)) (ruling (grants q (place_at m.front 0)) q)
+front_rule k q m = decided (λ n. ruling (Err n) Idle) (late_table k.ranks k.nodes q (all_held k m)) (ruling (grants q (place_at m.front 0)) q)
 
 -- ---- the tests
 
@@ -150,8 +150,8 @@ abbrev pub front_wiped : Lay → FrontDesk → FrontDesk
 front_wiped k m = front_desk (front_of k [] m.front) (clock.wiped k m.behind)
 
 unfoldable pub front_cleared : Lay → FrontDesk → Outcome FrontDesk
-front_cleared k m = cond (front_shape_ok k m) (outcome Done (front_wiped k m)) (stood m BadShape)
+front_cleared k m = cond (front_shape_ok k m) (outcome (Ok None) (front_wiped k m)) (stood m BadShape)
 
 -- "it makes the front's tests .., and no stage's"
-unfoldable pub front_held : Lay → FrontDesk → Count
-front_held k m = cond (front_shape_ok k m) (cond (places_ok k m) (Held (all_held k m)) (Unknown Damaged)) (Unknown BadShape)
+unfoldable pub front_held : Lay → FrontDesk → Result ℕ Refusal
+front_held k m = cond (front_shape_ok k m) (cond (places_ok k m) (Ok (all_held k m)) (Err Damaged)) (Err BadShape)

@@ -1,25 +1,25 @@
 -- A sorted front of k places before a queue whose lowest arrives p cycles after it is asked for (document 000, section 5). These are definitions.
 use Rattle.std.specs.Prelude.{◌+◌, ◌∷◌, ◌≡◌, ◌≤◌}
-use Rattle.laws.specs.Prelude.{Answer, Bool, Damaged, Done, Element, Empty, Full, Idle, List, NoTag, Out, Pop, Push, Refused, Replace, Request, [], cond, eqb, false, length, ltb, min, number_of, replicate, suc, true, untagged, zero, ℕ}
+use Rattle.laws.specs.Prelude.{Answer, Bool, Damaged, Element, Empty, Full, Idle, List, NoTag, Pop, Push, Replace, Request, [], cond, eqb, false, length, ltb, min, number_of, replicate, suc, true, untagged, zero, ℕ, Ok, None, Some, Err}
 use Rattle.bucket_model.specs.Prelude.{Sorted}
-use Rattle.bucket_clock_model.specs.declared.Maybe.{Maybe}
-use Rattle.bucket_clock_model.specs.declared.Maybe.TheVariants.{None, Some}
+use Rattle.std.specs.Prelude.{Option}
+use Rattle.std.specs.Prelude.{None, Some}
 use Rattle.bucket_clock_model.specs.Lists.{arrives, at, but_last, coming, first, heeded, last, left, many, moved, newcomer, placed, taken, takes}
 use Rattle.promise.specs.Prelude.{Step, always, lower, step}
 
 -- all that is held: in the front, in rank order; on the way, by the cycle of its arrival, the next one first; behind, in leaving order
 pub record State : Type 0 where
   pub front : List Element
-  pub way : List Maybe
+  pub way : List (Option Element)
   pub behind : List Element
 
-abbrev pub state : List Element → List Maybe → List Element → State
+abbrev pub state : List Element → List (Option Element) → List Element → State
 state f w b = record { front = f; way = w; behind = b }
 
 -- ---- counting
 
 -- of those on the way, those that arrive within j cycles
-unfoldable pub due : ℕ → (Element → Bool) → List Maybe → ℕ
+unfoldable pub due : ℕ → (Element → Bool) → List (Option Element) → ℕ
 due zero f w = 0
 due (suc j) f [] = 0
 due (suc j) f (y ∷ w) = at f y + due j f w
@@ -39,7 +39,7 @@ abbrev pub leak : ℕ → State → State
 leak k s = leak_if (ltb k (length s.front + coming always s.way)) s
 
 -- place 0 is taken out, and the first of those behind is asked for; what arrives is placed, and then the newcomer
-abbrev pub worked : Bool → Maybe → State → State
+abbrev pub worked : Bool → Option Element → State → State
 worked t x s =
     let z = taken t s.behind in
     state (placed x (placed (arrives s.way z) (left t s.front))) (moved s.way z) (left t s.behind)
@@ -50,15 +50,15 @@ cycled k q s = leak k (worked (takes q) (newcomer q) s)
 -- ---- the call: k places, and n elements at most
 
 -- place 0; an empty front that is asked for its first has been damaged
-abbrev pub out_of : Maybe → Answer
-out_of None = Refused Damaged
-out_of (Some x) = Out x
+abbrev pub out_of : Option Element → Answer
+out_of None = Err Damaged
+out_of (Some x) = Ok (Some x)
 
 abbrev pub heard : ℕ → Request → State → Answer
-heard n Idle s = Done
-heard n (Push x) s = cond (untagged x) (Refused NoTag) (cond (ltb (held always s) n) Done (Refused Full))
-heard n Pop s = cond (eqb (held always s) 0) (Refused Empty) (out_of (first s.front))
-heard n (Replace x) s = cond (untagged x) (Refused NoTag) (cond (eqb (held always s) 0) (Refused Empty) (out_of (first s.front)))
+heard n Idle s = Ok None
+heard n (Push x) s = cond (untagged x) (Err NoTag) (cond (ltb (held always s) n) (Ok None) (Err Full))
+heard n Pop s = cond (eqb (held always s) 0) (Err Empty) (out_of (first s.front))
+heard n (Replace x) s = cond (untagged x) (Err NoTag) (cond (eqb (held always s) 0) (Err Empty) (out_of (first s.front)))
 
 unfoldable pub fronted : ℕ → ℕ → Request → State → Step Answer State
 fronted k n q s = step (heard n q s) (cycled k (heeded (number_of (heard n q s)) q) s)

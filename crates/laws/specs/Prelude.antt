@@ -1,6 +1,6 @@
 -- What nearly every file takes in, passed on: numbers, lists, truth values, equations and their laws, what answers a need; then what queues take in and answer.
 unfoldable pub use Prim.Native.Nat.{pred}
-pub use Rattle.std.specs.Prelude.{◌%◌, ◌*◌, ◌+◌, ◌-◌, ◌/◌, ◌<◌, ◌^◌, ◌≤◌, max, min, suc, zero, ℕ, Bool, false, true, [], ◌∷◌, List, ◌≢◌, ◌⊎◌, ◌≡◌, refl}
+pub use Rattle.std.specs.Prelude.{◌%◌, ◌*◌, ◌+◌, ◌-◌, ◌/◌, ◌<◌, ◌^◌, ◌≤◌, max, min, suc, zero, ℕ, Bool, false, true, [], ◌∷◌, List, ◌≢◌, ◌⊎◌, ◌≡◌, refl, Option, None, Some, Result, Ok, Err}
 pub use Rattle.std.proofs.Math.Decide.{dec_lt, ℕ_discrete}
 pub use Rattle.std.proofs.Common.{add-suc, add-zero, eq-or-lt_of_le, le_of_suc-le-suc, mul-le-mul_right, not-suc-le-zero, pow-suc, suc-add, suc-mul, zero-add, add-one, arith, true≢false, inl, inr, ⊎_elim, ◌∙◌, ap, ap₂, subst, sym, length-append, length-drop, length-set, ext_get_or, get_or-set_other, get_or-set_same, set-set, rules, eq-eqb, eqb-true, le-leb, le-ltb, leb-false, leb-true, lt-ltb, ltb-false, ltb-true, ne_eqb}
 unfoldable pub use Rattle.std.proofs.Math.Bool.{beq as Bool·beq, ◌&&◌, ◌||◌, cond, not}
@@ -10,13 +10,9 @@ unfoldable pub use Rattle.std.proofs.Math.Dec.{eqb, leb, ltb}
 unfoldable pub use Rattle.std.proofs.Math.ListN.{drop, get_or, length, replicate, set, take}
 pub use Rattle.std.proofs.lemmas.List.{get_or-replicate, length-map, length-replicate, set_comm, set-get_or}
 unfoldable pub use Rattle.strip.specs.Answers.{asks, blank, is_refused, key, precedes, untagged}
-pub use Rattle.strip.specs.Answers.{count_number, count_of, element, element_of, has_run, length_of, number_of, rank_of, refusal_number, runs_idle, tag_of, turn}
+pub use Rattle.strip.specs.Answers.{Answer, count_number, count_of, element, element_of, has_run, length_of, number_of, rank_of, refusal_number, runs_idle, tag_of, turn}
 unfoldable pub use Rattle.strip.specs.Words.{is_blank, keep, pass}
 pub use Rattle.strip.specs.Words.{Zeros, element_in, element_numbers, element_words, write_element}
-pub use Rattle.strip.specs.declared.Answer.{Answer}
-pub use Rattle.strip.specs.declared.Answer.TheVariants.{Done, Out, Refused}
-pub use Rattle.strip.specs.declared.Count.{Count}
-pub use Rattle.strip.specs.declared.Count.TheVariants.{Held, Unknown}
 pub use Rattle.strip.specs.declared.Element.{Element}
 pub use Rattle.strip.specs.declared.Refusal.{Refusal}
 pub use Rattle.strip.specs.declared.Refusal.TheVariants.{BadPort, BadRank, BadShape, Damaged, Empty, Full, NoHeap, NoTag, TooSoon}

@@ -1,5 +1,5 @@
 -- The calls, from what they have tested.
-use Rattle.laws.specs.Prelude.{BadRank, BadShape, Bool, Damaged, Done, Element, Held, Idle, List, NoTag, Refused, Request, Unknown, ◌∙◌, ◌≡◌, ◌≤◌, ap, ap₂, arith, cond, false, length, not, not-false, not-true, refl, subst, sym, true, ℕ}
+use Rattle.laws.specs.Prelude.{BadRank, BadShape, Bool, Damaged, Element, Idle, List, NoTag, Request, ◌∙◌, ◌≡◌, ◌≤◌, ap, ap₂, arith, cond, false, length, not, not-false, not-true, refl, subst, sym, true, ℕ, Ok, Err, None}
 use Rattle.lines_model.proofs.Full.{total-most}
 use Rattle.lines_model.proofs.Tests.{below-means}
 use Rattle.lines_model.specs.Calls.{acted, called, cleared, counts_ok, done, heads, held_count, outcome, queue, wipe}
@@ -23,11 +23,11 @@ module _ (k : Rows) (w : List ℕ) where
   unfolding cleared
   clear-no e = rw e refl
 
-  pub clear-yes : (v : List ℕ) → shape_ok k (length w) ≡ true → v ≡ wipe (store_words k) w → outcome Done v ≡ cleared k w
+  pub clear-yes : (v : List ℕ) → shape_ok k (length w) ≡ true → v ≡ wipe (store_words k) w → outcome (Ok None) v ≡ cleared k w
   unfolding cleared
-  clear-yes v e p = rw e (ap (outcome Done) p)
+  clear-yes v e p = rw e (ap (outcome (Ok None)) p)
 
-  pub held-no : shape_ok k (length w) ≡ false → Unknown BadShape ≡ held_count k w
+  pub held-no : shape_ok k (length w) ≡ false → Err BadShape ≡ held_count k w
   unfolding held_count
   held-no e = rw e refl
 
@@ -44,16 +44,16 @@ module _ (k : Rows) (w : List ℕ) where
     unfolding totals
     sum_is = ap (λ (t : Totals). t.sum) e
 
-    pub held-torn : not t.ok ≡ true → Unknown Damaged ≡ held_count k w
+    pub held-torn : not t.ok ≡ true → Err Damaged ≡ held_count k w
     unfolding held_count
     held-torn n = rw (s, counts-no n) refl
 
     pub held-most : not t.ok ≡ false → t.sum ≤ 524288
     held-most n = omega (arith, sum_is, total-most (word w) k.lines k.places ((below-means k.places (word w) k.lines).says (counts-yes n)), (small k (length w) s).area)
 
-    pub held-told : not t.ok ≡ false → Held t.sum ≡ held_count k w
+    pub held-told : not t.ok ≡ false → Ok t.sum ≡ held_count k w
     unfolding held_count
-    held-told n = rw (s, counts-yes n) (ap Held sum_is)
+    held-told n = rw (s, counts-yes n) (ap Ok sum_is)
 
 -- ---- push, pop and replace
 
@@ -65,7 +65,7 @@ module _ (k : Rows) (q : Request) (w : List ℕ) where
   carried : carried_out (queue k) (rule_at (queue k) q w) w ≡ cond (lines_ok k w (word w) z.due) (acted k w z) (left w Damaged)
   unfolding come_to due_of
   carried =
-      decided-same (λ (g : Ruling Request). carried_out (queue k) g w) (λ (z : Choice). cond (lines_ok k w (word w) z.due) (acted k w z) (left w Damaged)) (λ n. ruling (Refused n) Idle) denied
+      decided-same (λ (g : Ruling Request). carried_out (queue k) g w) (λ (z : Choice). cond (lines_ok k w (word w) z.due) (acted k w z) (left w Damaged)) (λ n. ruling (Err n) Idle) denied
       (late_table k (word w) (heads k w) q) (ruling (grants q (heads k w (giver k (word w) (heads k w)))) q) (let_in k (word w) (heads k w) q) (λ n. refl) refl
 
   pub call_shape : shape_ok k (length w) ≡ false → left w BadShape ≡ called k q w

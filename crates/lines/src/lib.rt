@@ -12,38 +12,32 @@ use lines_work::{
     Sizes, come_to, count, goal_of, lacks_tag, look_lines, rank_fit, shape_ok, sum_up, wipe_words,
     work,
 };
-use strip::{Answer, Count, Element, Refusal, Request};
+use strip::{Answer, Element, Refusal, Request};
 
 // All counts and places become 0. The rest of a longer slice stays.
 pub fn clear(s: &mut [u32], k: Rows) -> Answer
     ensures { outcome result s.new ≡ cleared k s.old }
 {
-    let fits = shape_ok(k, s.len());
-    if !fits {
-        return Answer::Refused(Refusal::BadShape);
+    if !shape_ok(k, s.len()) {
+        return Err(Refusal::BadShape);
     }
-    let lines = k.lines;
-    let places = k.places;
-    let words = lines + 3 * (lines * places);
+    let words = k.lines + 3 * (k.lines * k.places);
     wipe_words(s, words);
-    Answer::Done
+    Ok(None)
 }
 
 // How many are held.
-pub fn held(s: &[u32], k: Rows) -> Count
+pub fn held(s: &[u32], k: Rows) -> Result<u32, Refusal>
     ensures { result ≡ held_count k s.now }
 {
-    let fits = shape_ok(k, s.len());
-    if !fits {
-        return Count::Unknown(Refusal::BadShape);
+    if !shape_ok(k, s.len()) {
+        return Err(Refusal::BadShape);
     }
-    let lines = k.lines;
-    let places = k.places;
-    let seen = sum_up(s, lines, places);
+    let seen = sum_up(s, k.lines, k.places);
     if !seen.ok {
-        return Count::Unknown(Refusal::Damaged);
+        return Err(Refusal::Damaged);
     }
-    Count::Held(seen.sum as u32)
+    Ok(seen.sum as u32)
 }
 
 // How many elements the lines of what is to be done have now.
@@ -75,33 +69,27 @@ fn sizes_now(s: &[u32], k: Rows, due: Due) -> Sizes
 fn call(s: &mut [u32], k: Rows, q: Request) -> Answer
     ensures { outcome result s.new ≡ called k q s.old }
 {
-    let fits = shape_ok(k, s.len());
-    if !fits {
-        return Answer::Refused(Refusal::BadShape);
+    if !shape_ok(k, s.len()) {
+        return Err(Refusal::BadShape);
     }
-    let ranked = rank_fit(k, q);
-    if !ranked {
-        return Answer::Refused(Refusal::BadRank);
+    if !rank_fit(k, q) {
+        return Err(Refusal::BadRank);
     }
-    let bare = lacks_tag(q);
-    if bare {
-        return Answer::Refused(Refusal::NoTag);
+    if lacks_tag(q) {
+        return Err(Refusal::NoTag);
     }
-    let lines = k.lines;
-    let places = k.places;
-    let seen = sum_up(s, lines, places);
+    let seen = sum_up(s, k.lines, k.places);
     if !seen.ok {
-        return Answer::Refused(Refusal::Damaged);
+        return Err(Refusal::Damaged);
     }
     let z = come_to(s, k, q, seen.sum);
-    let due = z.due;
-    let size = sizes_now(s, k, due);
-    let look = look_lines(s, k, due, size);
+    let size = sizes_now(s, k, z.due);
+    let look = look_lines(s, k, z.due, size);
     if !look.ok {
-        return Answer::Refused(Refusal::Damaged);
+        return Err(Refusal::Damaged);
     }
-    count(s, k, due);
-    work(s, k, due, size, look.spot);
+    count(s, k, z.due);
+    work(s, k, z.due, size, look.spot);
     z.answer
 }
 

@@ -1,6 +1,5 @@
 -- A cycle, from what its steps have tested and written.
-use Rattle.laws.specs.Prelude.{BadRank, BadShape, Bool, Damaged, Element, List, NoTag, Refused, Request, ◌&&◌, ◌+◌, ◌-◌, ◌<◌, ◌||◌, ◌∙◌, ◌≡◌, ◌≤◌, ap, arith, eq-eqb, eqb, false, le-ltb, length, lt-ltb, ltb, ne_eqb, not, not-false, not-true, refl, subst, sym, true, ℕ}
-use Rattle.lines_clock.specs.declared.Cycled.{Cycled}
+use Rattle.laws.specs.Prelude.{Answer, BadRank, BadShape, Bool, Damaged, Element, List, NoTag, Request, ◌&&◌, ◌+◌, ◌-◌, ◌<◌, ◌||◌, ◌∙◌, ◌≡◌, ◌≤◌, ap, arith, eq-eqb, eqb, false, le-ltb, length, lt-ltb, ltb, ne_eqb, not, not-false, not-true, refl, subst, sym, true, ℕ, Err}
 use Rattle.lines_model.proofs.Acts.{goal-lt}
 use Rattle.lines_model.proofs.Clocked.{due-means, work-long}
 use Rattle.lines_model.proofs.Shaped.{shape-means}
@@ -10,7 +9,7 @@ use Rattle.lines_model.proofs.Which.{total_ext}
 use Rattle.lines_model.specs.Calls.{counts_ok, heads}
 use Rattle.lines_model.specs.Clock.{chosen, DueFit, due_ok, had, Machine, machine, settled, written, cycled, cycle_ok}
 use Rattle.lines_model.specs.Layout.{shape_ok, word}
-use Rattle.lines_model.specs.Rules.{choose, come_to, counted, denied, goal, in_range, lines_ok, rank_fit, total, worked}
+use Rattle.lines_model.specs.Rules.{has_room, choose, come_to, counted, denied, goal, in_range, lines_ok, rank_fit, total, worked}
 use Rattle.lines_model.specs.declared.Choice.{Choice}
 use Rattle.lines_model.specs.declared.Due.{Due}
 use Rattle.lines_model.specs.declared.Due.TheVariants.{Put, Rest, Swap, Take}
@@ -35,13 +34,9 @@ module _ (k : Rows) (w : List ℕ) (l : ℕ) where
   unfolding due_ok
   put-yes x g b h e f = rw (lt-ltb l k.lines h, ← e, ← f) refl
 
-  pub take_no : k.lines ≤ l → false ≡ due_ok k w (Take l)
+  pub take_as : has_room k (word w) l ≡ due_ok k w (Take l)
   unfolding due_ok
-  take_no h = rw (le-ltb l k.lines h) refl
-
-  pub take-yes : l < k.lines → ltb (word w l) k.places ≡ due_ok k w (Take l)
-  unfolding due_ok
-  take-yes h = rw (lt-ltb l k.lines h) refl
+  take_as = refl
 
   pub swap-no : (x : Element) → k.lines ≤ l → false ≡ due_ok k w (Swap l x)
   unfolding due_ok
@@ -132,25 +127,25 @@ module _ (k : Rows) (w : List ℕ) (q : Request) where
 -- ---- a cycle
 
 -- what is handed back says what it is
-pub cycle-answered : (w : List ℕ) (t u : Cycled) (o : Outcome Machine) → t ≡ u → outcome u.answer (machine w u.due) ≡ o → outcome t.answer (machine w t.due) ≡ o
-cycle-answered w t u o e p = ap (λ (t : Cycled). outcome t.answer (machine w t.due)) e ∙ p
+pub cycle-answered : (w : List ℕ) (a b : Answer) (d e : Due) (o : Outcome Machine) → (a ≡ b) × (d ≡ e) → outcome b (machine w e) ≡ o → outcome a (machine w d) ≡ o
+cycle-answered w a b d e o p q = rw (p.0, p.1) q
 
 module _ (k : Rows) (q : Request) (w : List ℕ) (due : Due) where
-  pub cycle-shape : shape_ok k (length w) ≡ false → outcome (Refused BadShape) (machine w due) ≡ cycled k q (machine w due)
+  pub cycle-shape : shape_ok k (length w) ≡ false → outcome (Err BadShape) (machine w due) ≡ cycled k q (machine w due)
   unfolding cycled
   cycle-shape e = rw e refl
 
   module _ (s : shape_ok k (length w) ≡ true) where
-    torn : cycle_ok k (machine w due) ≡ false → outcome (Refused Damaged) (machine w due) ≡ cycled k q (machine w due)
+    torn : cycle_ok k (machine w due) ≡ false → outcome (Err Damaged) (machine w due) ≡ cycled k q (machine w due)
     unfolding cycled
     torn e = rw (s, e) refl
 
-    pub cycle-counts : counts_ok k w ≡ false → outcome (Refused Damaged) (machine w due) ≡ cycled k q (machine w due)
+    pub cycle-counts : counts_ok k w ≡ false → outcome (Err Damaged) (machine w due) ≡ cycled k q (machine w due)
     unfolding cycle_ok
     cycle-counts e = torn (rw e refl)
 
     module _ (c : counts_ok k w ≡ true) where
-      pub cycle-due : due_ok k w due ≡ false → outcome (Refused Damaged) (machine w due) ≡ cycled k q (machine w due)
+      pub cycle-due : due_ok k w due ≡ false → outcome (Err Damaged) (machine w due) ≡ cycled k q (machine w due)
       unfolding cycle_ok
       cycle-due e = torn (rw (c, e) refl)
 
@@ -158,7 +153,7 @@ module _ (k : Rows) (q : Request) (w : List ℕ) (due : Due) where
         tested-is : lines_ok k w (had k w due) due ≡ look.ok
         tested-is = sym (ap (λ (o : Look). o.ok) f ∙ ap (λ (n : Sizes). (looked k w n due).ok) g ∙ looked-ok k w (had k w due) due)
 
-        pub cycle-line : not look.ok ≡ true → outcome (Refused Damaged) (machine w due) ≡ cycled k q (machine w due)
+        pub cycle-line : not look.ok ≡ true → outcome (Err Damaged) (machine w due) ≡ cycled k q (machine w due)
         unfolding cycle_ok
         cycle-line m = torn (rw (c, p, tested-is ∙ not-true look.ok m) refl)
 

@@ -8,65 +8,28 @@ ghost use Rattle.lines_model.specs.Layout.{power_of_two, shape_ok, word};
 ghost use Rattle.lines_model.specs.Rules as rules;
 ghost use Rattle.lines_model.specs.Rules.{total};
 ghost use Rattle.lines_model.specs.declared.Due.TheVariants.{Put, Rest, Swap, Take};
-ghost use Rattle.lines_clock.specs.Reports.{reported, stood};
 ghost use Rattle.lines_work.specs.Sizes.{sizes_by, Standing};
 ghost use Rattle.promise.specs.Calls.{outcome};
 ghost use Rattle.promise.specs.Drains.{drained};
 
 use lines_model::{Choice, Due, Rows};
 use lines_work::{
-    Sizes, come_to, count, goal_of, in_range, lacks_tag, look_lines, rank_fit, shape_ok, sum_up,
-    work,
+    Sizes, come_to, count, goal_of, has_room, in_range, lacks_tag, look_lines, rank_fit, shape_ok,
+    sum_up, work,
 };
-use strip::{Answer, Count, Element, Refusal, Request, number};
+use strip::{Element, Refusal, Request, is_refused, left_as, report};
 
 // What a cycle answers, and what is pending after it.
-#[derive(Clone, Copy)]
-pub struct Cycled {
-    pub answer: Answer,
-    pub due: Due,
-}
+pub type Cycled = strip::Cycled<Due>;
 
 // What a drain reports: its answer, the cycles that it ran, whether work is left; and what is pending after it.
-#[derive(Clone, Copy)]
-pub struct Report {
-    pub answer: Answer,
-    pub cycles: u32,
-    pub left: bool,
-    pub due: Due,
-}
-
-// Refused 1 or 2: what was pending stands.
-fn stays(refusal: Refusal, due: Due) -> Cycled
-    ensures { result ≡ stood refusal due }
-{
-    Cycled {
-        answer: Answer::Refused(refusal),
-        due,
-    }
-}
-
-fn told(answer: Answer, cycles: u32, left: bool, due: Due) -> Report
-    ensures { result ≡ reported answer cycles left due }
-{
-    Report {
-        answer,
-        cycles,
-        left,
-        due,
-    }
-}
+pub type Report = strip::Drained<Due, u32>;
 
 // Is work pending?
 fn is_pending(due: Due) -> bool
     ensures { result ≡ is_pending due }
 {
-    match due {
-        Due::Rest => false,
-        Due::Put(_, _) => true,
-        Due::Take(_) => true,
-        Due::Swap(_, _) => true,
-    }
+    !matches!(due, Due::Rest)
 }
 
 // ---- what is pending is tested
@@ -76,14 +39,10 @@ fn put_ok(s: &[u32], k: Rows, l: usize, x: Element) -> bool
     requires { shape_ok k (length s.now) ≡ true }
     ensures { result ≡ due_ok k s.now (Put l x) }
 {
-    let lines = k.lines;
-    if l >= lines {
+    if l >= k.lines {
         return false;
     }
-    let ranked = in_range(k, x);
-    let g = goal_of(k, l, x);
-    let c = s[l];
-    ranked & (g == l) & (0 < c)
+    in_range(k, x) & (goal_of(k, l, x) == l) & (0 < s[l])
 }
 
 // .. and of a replace.
@@ -91,43 +50,28 @@ fn swap_ok(s: &[u32], k: Rows, l: usize, x: Element) -> bool
     requires { shape_ok k (length s.now) ≡ true }
     ensures { result ≡ due_ok k s.now (Swap l x) }
 {
-    let lines = k.lines;
-    if l >= lines {
+    if l >= k.lines {
         return false;
     }
-    let ranked = in_range(k, x);
-    if !ranked {
+    if !in_range(k, x) {
         return false;
     }
     let g = goal_of(k, l, x);
-    let d = s[g];
     let c = s[l] as usize;
-    (0 < d) & ((l == g) | (c < k.places))
+    (0 < s[g]) & ((l == g) | (c < k.places))
 }
 
 fn due_ok(s: &[u32], k: Rows, due: Due) -> bool
     requires { shape_ok k (length s.now) ≡ true }
     ensures { result ≡ due_ok k s.now due }
 {
+    // each arm hands over other values: a closure for the step would be no plainer
     match due {
         Due::Rest => true,
         Due::Put(l, x) => put_ok(s, k, l, x),
-        Due::Take(l) => take_ok(s, k, l),
+        Due::Take(l) => has_room(s, k, l),
         Due::Swap(l, x) => swap_ok(s, k, l, x),
     }
-}
-
-// .. of a pop.
-fn take_ok(s: &[u32], k: Rows, l: usize) -> bool
-    requires { shape_ok k (length s.now) ≡ true }
-    ensures { result ≡ due_ok k s.now (Take l) }
-{
-    let lines = k.lines;
-    if l >= lines {
-        return false;
-    }
-    let c = s[l] as usize;
-    c < k.places
 }
 
 // How many elements the lines of what is pending had before.
@@ -176,17 +120,15 @@ fn choose(s: &[u32], k: Rows, q: Request, held: usize) -> Choice
     requires counted { held ≡ total (word s.now) k.lines }
     ensures { result ≡ rules.choose k (word s.now) (heads k s.now) q }
 {
-    let ranked = rank_fit(k, q);
-    if !ranked {
+    if !rank_fit(k, q) {
         return Choice {
-            answer: Answer::Refused(Refusal::BadRank),
+            answer: Err(Refusal::BadRank),
             due: Due::Rest,
         };
     }
-    let bare = lacks_tag(q);
-    if bare {
+    if lacks_tag(q) {
         return Choice {
-            answer: Answer::Refused(Refusal::NoTag),
+            answer: Err(Refusal::NoTag),
             due: Due::Rest,
         };
     }
@@ -195,52 +137,48 @@ fn choose(s: &[u32], k: Rows, q: Request, held: usize) -> Choice
 
 // A cycle with a request, or idle: test, sort, choose, write.
 pub fn cycle(s: &mut [u32], k: Rows, due: Due, q: Request) -> Cycled
-    ensures { outcome result.answer (machine s.new result.due) ≡ cycled k q (machine s.old due) }
+    ensures { outcome result.answer (machine s.new result.state) ≡ cycled k q (machine s.old due) }
 {
-    let fits = shape_ok(k, s.len());
-    if !fits {
-        return stays(Refusal::BadShape, due);
+    if !shape_ok(k, s.len()) {
+        return left_as(Refusal::BadShape, due);
     }
-    let lines = k.lines;
-    let places = k.places;
-    let seen = sum_up(s, lines, places);
+    let seen = sum_up(s, k.lines, k.places);
     if !seen.ok {
-        return stays(Refusal::Damaged, due);
+        return left_as(Refusal::Damaged, due);
     }
-    let fine = due_ok(s, k, due);
-    if !fine {
-        return stays(Refusal::Damaged, due);
+    if !due_ok(s, k, due) {
+        return left_as(Refusal::Damaged, due);
     }
     let size = sizes_had(s, k, due);
     let look = look_lines(s, k, due, size);
     if !look.ok {
-        return stays(Refusal::Damaged, due);
+        return left_as(Refusal::Damaged, due);
     }
     work(s, k, due, size, look.spot);
     let z = choose(s, k, q, seen.sum);
-    let next = z.due;
-    let answer = z.answer;
-    count(s, k, next);
-    Cycled { answer, due: next }
+    count(s, k, z.due);
+    Cycled {
+        answer: z.answer,
+        state: z.due,
+    }
 }
 
 // Clear: zeros, and nothing pending.
 pub fn clear(s: &mut [u32], k: Rows, due: Due) -> Cycled
-    ensures { outcome result.answer (machine s.new result.due) ≡ clock_cleared k (machine s.old due) }
+    ensures { outcome result.answer (machine s.new result.state) ≡ clock_cleared k (machine s.old due) }
 {
     let answer = lines::clear(s, k);
-    let n = number(answer);
-    if n != 0 {
-        return Cycled { answer, due };
+    if is_refused(answer) {
+        return Cycled { answer, state: due };
     }
     Cycled {
         answer,
-        due: Due::Rest,
+        state: Due::Rest,
     }
 }
 
 // Held: exact in the middle of any work. It reads no record.
-pub fn held(s: &[u32], k: Rows) -> Count
+pub fn held(s: &[u32], k: Rows) -> Result<u32, Refusal>
     ensures { result ≡ clock_held k (machine s.now Rest) }
 {
     lines::held(s, k)
@@ -248,25 +186,20 @@ pub fn held(s: &[u32], k: Rows) -> Count
 
 // Drain: idle cycles while work is pending and the budget lasts. One is always enough.
 pub fn drain(s: &mut [u32], k: Rows, due: Due, budget: u32) -> Report
-    ensures { drained result.answer result.cycles result.left (machine s.new result.due) ≡ drains k budget (machine s.old due) }
+    ensures { drained result.answer result.cycles result.left (machine s.new result.state) ≡ drains k budget (machine s.old due) }
 {
-    let fits = shape_ok(k, s.len());
-    if !fits {
-        return told(Answer::Refused(Refusal::BadShape), 0, false, due);
+    if !shape_ok(k, s.len()) {
+        return report(Err(Refusal::BadShape), 0, false, due);
     }
-    let pending = is_pending(due);
-    if !pending {
-        return told(Answer::Done, 0, false, due);
+    if !is_pending(due) {
+        return report(Ok(None), 0, false, due);
     }
     if budget == 0 {
-        return told(Answer::Done, 0, true, due);
+        return report(Ok(None), 0, true, due);
     }
     let o = cycle(s, k, due, Request::Idle);
-    let answer = o.answer;
-    let next = o.due;
-    let n = number(answer);
-    if n != 0 {
-        return told(answer, 0, true, next);
+    if is_refused(o.answer) {
+        return report(o.answer, 0, true, o.state);
     }
-    told(Answer::Done, 1, false, next)
+    report(Ok(None), 1, false, o.state)
 }

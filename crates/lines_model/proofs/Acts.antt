@@ -1,5 +1,5 @@
 -- What a request comes to can be done, and keeps every line sorted and neat; no test of a sound store fails.
-use Rattle.laws.specs.Prelude.{All, BadRank, Bool, Damaged, Element, Idle, List, NoTag, Pop, Push, Refused, Replace, Request, [], ◌&&◌, ◌+◌, ◌-◌, ◌<◌, ◌||◌, ◌∙◌, ◌∷◌, ◌≡◌, ◌≤◌, and_left, and_right, and-true, ap, arith, cond, dec_lt, eq-eqb, eqb, eqb-false, eqb-true, false, false≢true, inl, is-upd, le-leb, le-ltb, leb, length, length-set, lt-ltb, ltb, ltb-true, ne_eqb, not, refl, set, subst, suc, sym, true, upd, zero, ℕ, ℕ_discrete, ⊎_elim}
+use Rattle.laws.specs.Prelude.{All, BadRank, Bool, Damaged, Element, Idle, List, NoTag, Pop, Push, Replace, Request, [], ◌&&◌, ◌+◌, ◌-◌, ◌<◌, ◌||◌, ◌∙◌, ◌∷◌, ◌≡◌, ◌≤◌, and_left, and_right, and-true, ap, arith, cond, dec_lt, eq-eqb, eqb, eqb-false, eqb-true, false, false≢true, inl, is-upd, le-leb, le-ltb, leb, length, length-set, lt-ltb, ltb, ltb-true, ne_eqb, not, refl, set, subst, suc, sym, true, upd, zero, ℕ, ℕ_discrete, ⊎_elim, Err}
 use Rattle.lines_model.proofs.Keeps.{put_keeps, take-keeps}
 use Rattle.lines_model.proofs.Row.{other, row-past, same, set-length, set_other, set_past}
 use Rattle.lines_model.proofs.Shaped.{shape-means}
@@ -244,13 +244,13 @@ module _ (k : Rows) (w : List ℕ) (m : ℕ → List Element) (s : Sound k w m) 
   rule-way : rank_fit k q ≡ true → lines_ok k w (word w) (due_in k ruled_here.op w) ≡ true
   unfolding due_of lines_ok
   rule-way e =
-      decided-either (λ n. ruling (Refused n) Idle) (λ (g : Ruling Request). lines_ok k w (word w) (due_in k g.op w) ≡ true) late_here (ruling (grants q lowest-here) q)
+      decided-either (λ n. ruling (Err n) Idle) (λ (g : Ruling Request). lines_ok k w (word w) (due_in k g.op w) ≡ true) late_here (ruling (grants q lowest-here) q)
       (each-any _ (λ n. refl) late_here) (λ c. lines_ok_lem k w m s (word w) s.count (due_in k q w) (lets k w m s (heads k w) q e c))
 
   rule-does : outcome ruled_here.answer (done k (due_in k ruled_here.op w) w) ≡ acted k w (decided denied late_here (choice (grants q lowest-here) (due_in k q w)))
   unfolding due_of
   rule-does =
-      decided-same (λ (g : Ruling Request). outcome g.answer (done k (due_in k g.op w) w)) (λ (z : Choice). acted k w z) (λ n. ruling (Refused n) Idle) denied late_here
+      decided-same (λ (g : Ruling Request). outcome g.answer (done k (due_in k g.op w) w)) (λ (z : Choice). acted k w z) (λ n. ruling (Err n) Idle) denied late_here
       (ruling (grants q lowest-here) q) (choice (grants q lowest-here) (due_in k q w)) (λ n. refl) refl
 
   pub called_is : called k q w ≡ acted k w (choose k (word w) (heads k w) q)

@@ -1,6 +1,6 @@
 -- The lines are a clock: what every cycle keeps is `Flying` (`is-clock`). What follows is every clocked machine's (`promise/proofs`), with the lines' own
 -- promises: every cycle is answered as one at a time, and after at most one idle cycle every word is equal.
-use Rattle.laws.specs.Prelude.{BadShape, Bool, Done, Element, Held, Idle, List, Means, Pop, Push, Replace, Request, [], ◌+◌, ◌-◌, ◌<◌, ◌∙◌, ◌∷◌, ◌≡◌, ◌≤◌, ◌⊎◌, ap, arith, blank, cond, dec_lt, eq-eqb, eqb, false, inl, inr, length, length-append, length-set, ltb, means-and, means-by, means-eqb, means-ltb, ne_eqb, refl, runs_idle, set, subst, sym, true, true≢false, ℕ, ℕ_discrete, ⊎_elim}
+use Rattle.laws.specs.Prelude.{BadShape, Bool, Element, Idle, List, Means, Pop, Push, Replace, Request, [], ◌+◌, ◌-◌, ◌<◌, ◌∙◌, ◌∷◌, ◌≡◌, ◌≤◌, ◌⊎◌, ap, arith, blank, cond, dec_lt, eq-eqb, eqb, false, inl, inr, length, length-append, length-set, ltb, means-and, means-by, means-eqb, means-ltb, ne_eqb, refl, runs_idle, set, subst, sym, true, true≢false, ℕ, ℕ_discrete, ⊎_elim, Ok, None}
 use Rattle.lines_model.proofs.Acts.{after, counts-ok, goal-lt, shape-ok}
 use Rattle.lines_model.proofs.Keeps.{row_before}
 use Rattle.lines_model.proofs.Promises.{is-queue}
@@ -170,7 +170,7 @@ module _ (k : Rows) where
 module _ (k : Rows) (x : Machine) (s : Shaped k (length x.words)) where
   wiped-start : fresh k x ≡ machine (wipe (store_words k) x.words) Rest
   unfolding clock_cleared
-  wiped-start = ap (λ (b : Bool). (cond {A = Outcome Machine} b (outcome Done (machine (wipe (store_words k) x.words) Rest)) (left x BadShape)).words) (shape-ok k (length x.words) s)
+  wiped-start = ap (λ (b : Bool). (cond {A = Outcome Machine} b (outcome (Ok None) (machine (wipe (store_words k) x.words) Rest)) (left x BadShape)).words) (shape-ok k (length x.words) s)
 
   start_is : fresh k x ≡ machine (cleared k x.words).words Rest
   start_is = wiped-start ∙ ap (λ (v : List ℕ). machine v Rest) (sym (cleared-words k x.words s))
@@ -235,7 +235,7 @@ module _ (k : Rows) (x : Machine) (s : Shaped k (length x.words)) where
     clock-held =
         let y = clock-settles in
         let v = always-neat k x.words s qs in
-        rw (flying-shape k flown y.1, shape-ok k (length plodded) v.1.shaped, counts-same-ok, counts-ok k plodded v.0 v.1) (ap Held (total_ext (word flown.words) (word plodded) k.lines clock-counts))
+        rw (flying-shape k flown y.1, shape-ok k (length plodded) v.1.shaped, counts-same-ok, counts-ok k plodded v.0 v.1) (ap Ok (total_ext (word flown.words) (word plodded) k.lines clock-counts))
       where
         counts-same-ok : counts_ok k flown.words ≡ true
         counts-same-ok = (below-means k.places (word flown.words) k.lines).holds ((cycle-means k flown).says (cycle-ok k flown clock-settles.1)).counts

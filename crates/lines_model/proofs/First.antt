@@ -1,6 +1,6 @@
 -- Kind 1, and one line in either kind: the lines one behind the other are the plain first-in list, call by call, with "full" where as many as W of that line's
 -- ranks are held. So equal ranks leave first in, first out.
-use Rattle.laws.specs.Prelude.{All, Answer, BadRank, Bool, Done, Element, Empty, Full, Idle, List, NoTag, Out, Pop, Push, Refusal, Refused, Replace, Request, [], ◌++◌, ◌+◌, ◌<◌, ◌∙◌, ◌∷◌, ◌≡◌, ◌≤◌, all_any, all_map, ap, ap₂, arith, cond, eq-eqb, eqb, false, is-upd, le-ltb, length, lt-ltb, ltb, ne_eqb, refl, subst, suc, sym, true, true≢false, untagged, zero, ℕ, ℕ_discrete, ⊎_elim}
+use Rattle.laws.specs.Prelude.{All, Answer, BadRank, Bool, Element, Empty, Full, Idle, List, NoTag, Pop, Push, Refusal, Replace, Request, [], ◌++◌, ◌+◌, ◌<◌, ◌∙◌, ◌∷◌, ◌≡◌, ◌≤◌, all_any, all_map, ap, ap₂, arith, cond, eq-eqb, eqb, false, is-upd, le-ltb, length, lt-ltb, ltb, ne_eqb, refl, subst, suc, sym, true, true≢false, untagged, zero, ℕ, ℕ_discrete, ⊎_elim, Ok, None, Some, Err}
 use mathlib.Core.List.{append-nil}
 use Rattle.lines_model.proofs.Acts.{after, behind-length, called_is, called-keeps, giver-fits, goal-own, in-range, keeps, put, taken, uncons}
 use Rattle.lines_model.proofs.Order.{order-none, order-pop, order-push}
@@ -148,24 +148,24 @@ module _ (k : Rows) (alone : Single k) where
     agree-if true a b c d p q = p refl
     agree-if false a b c d p q = q refl
 
-    same : (r : Refusal) → Agree (denied r) (step (Refused r) L)
+    same : (r : Refusal) → Agree (denied r) (step (Err r) L)
     same r = record { alike = refl; holds = refl }
 
     -- 4 and 7 alike
     same_asked : (x : Element) (z : Choice) (y : Step Answer (List Element)) → (in_range k x ≡ true → Agree z y)
-        → Agree (cond (in_range k x) (cond (untagged x) (denied NoTag) z) (denied BadRank)) (cond (in_range k x) (cond (untagged x) (step (Refused NoTag) L) y) (step (Refused BadRank) L))
+        → Agree (cond (in_range k x) (cond (untagged x) (denied NoTag) z) (denied BadRank)) (cond (in_range k x) (cond (untagged x) (step (Err NoTag) L) y) (step (Err BadRank) L))
     same_asked x z y h = agree-if (in_range k x) _ _ _ _ (λ p. agree-if (untagged x) _ _ _ _ (λ t. same NoTag) (λ t. h p)) (λ p. same BadRank)
 
     own_home : (x : Element) → in_range k x ≡ true → Own k (home k x) x
     own_home x f = goal-own k x f 0
 
     push-agrees : (x : Element) → in_range k x ≡ true
-        → Agree (cond (has_room k (word w) (taker k (word w) x)) (choice Done (Put (taker k (word w) x) x)) (denied Full)) (cond (ltb (mates k x L) k.places) (step Done (insert x L)) (step (Refused Full) L))
+        → Agree (cond (has_room k (word w) (taker k (word w) x)) (choice (Ok None) (Put (taker k (word w) x) x)) (denied Full)) (cond (ltb (mates k x L) k.places) (step (Ok None) (insert x L)) (step (Err Full) L))
     push-agrees x f =
         let t = takes (length w) s.shaped (word w) x f in
         let e : has_room k (word w) (taker k (word w) x) ≡ ltb (mates k x L) k.places =
         t.room ∙ ap (λ (n : ℕ). ltb n k.places) (s.count (home k x) t.within ∙ sym (mates-are w m s x t.within)) in
-        subst (λ (b : Bool). Agree (cond (has_room k (word w) (taker k (word w) x)) (choice Done (Put (taker k (word w) x) x)) (denied Full)) (cond b (step Done (insert x L)) (step (Refused Full) L))) e
+        subst (λ (b : Bool). Agree (cond (has_room k (word w) (taker k (word w) x)) (choice (Ok None) (Put (taker k (word w) x) x)) (denied Full)) (cond b (step (Ok None) (insert x L)) (step (Err Full) L))) e
         (agree-if (has_room k (word w) (taker k (word w) x)) _ _ _ _
         (λ r. record { alike = refl; holds = ap (λ (l : ℕ). in_order (put m l x) 0 k.lines) (t.where_to r) ∙ sym (insert-line w m s x (home k x) t.within (own_home x f)) })
         (λ r. same Full))
@@ -199,7 +199,7 @@ module _ (k : Rows) (alone : Single k) where
     nothing-held : total (word w) k.lines ≡ 0 → in_order m 0 k.lines ≡ []
     nothing-held z = order-none m 0 k.lines (λ j a b. empty-line (m j) (omega (arith, s.count j (omega arith), total-le (word w) k.lines j (omega arith))))
 
-    pop-agrees : Agree (cond (eqb (total (word w) k.lines) 0) (denied Empty) (choice (Out (heads k w g)) (Take g))) (cond (is_none L) (step (Refused Empty) L) (served Pop L))
+    pop-agrees : Agree (cond (eqb (total (word w) k.lines) 0) (denied Empty) (choice (Ok (Some (heads k w g))) (Take g))) (cond (is_none L) (step (Err Empty) L) (served Pop L))
     pop-agrees = elim (ℕ_discrete (total (word w) k.lines) 0) [
       | yes z ↦ rw (eq-eqb (total (word w) k.lines) 0 z, nothing-held z) (record { alike = refl; holds = nothing-held z })
       | no z ↦ rw (ne_eqb (total (word w) k.lines) 0 z, popped-is z) (record { alike = refl; holds = refl })
@@ -209,10 +209,10 @@ module _ (k : Rows) (alone : Single k) where
 
     module _ (x : Element) (f : in_range k x ≡ true) where
       abbrev lined : Choice
-      lined = cond (eqb (total (word w) k.lines) 0) (denied Empty) (cond (room_after k (word w) g (goal k g x)) (choice (Out (heads k w g)) (Swap g x)) (denied Full))
+      lined = cond (eqb (total (word w) k.lines) 0) (denied Empty) (cond (room_after k (word w) g (goal k g x)) (choice (Ok (Some (heads k w g))) (Swap g x)) (denied Full))
 
       abbrev listed : List Element → Step Answer (List Element)
-      listed l = cond (is_none l) (step (Refused Empty) l) (cond (ltb (mates k x (behind l)) k.places) (served (Replace x) l) (step (Refused Full) l))
+      listed l = cond (is_none l) (step (Err Empty) l) (cond (ltb (mates k x (behind l)) k.places) (served (Replace x) l) (step (Err Full) l))
 
       room-again : (g : ℕ) → (g < k.lines) × (0 < word w g) → home k x < k.lines → room_after k (word w) g (home k x) ≡ ltb (length (taken m g (home k x))) k.places
       room-again g gf b = elim (ℕ_discrete (home k x) g) [

@@ -1,5 +1,5 @@
 -- Kind 2: numbers and ranks are those of the plain list with room for QW, call by call. Tags among equal ranks may differ.
-use Rattle.laws.specs.Prelude.{All, Answer, Bool, Done, Element, Empty, Full, Idle, Iff, List, NoTag, Out, Pop, Push, Refusal, Refused, Replace, Request, [], ◌*◌, ◌+◌, ◌<◌, ◌∙◌, ◌∷◌, ◌≡◌, ◌≤◌, and_left, ap, ap₂, arith, cond, dec_lt, eq-eqb, eqb, false, le-ltb, length, lt-ltb, ltb, ltb-true, map, ne_eqb, refl, subst, sym, true, true≢false, untagged, ℕ, ℕ_discrete}
+use Rattle.laws.specs.Prelude.{All, Answer, Bool, Element, Empty, Full, Idle, Iff, List, NoTag, Pop, Push, Refusal, Replace, Request, [], ◌*◌, ◌+◌, ◌<◌, ◌∙◌, ◌∷◌, ◌≡◌, ◌≤◌, and_left, ap, ap₂, arith, cond, dec_lt, eq-eqb, eqb, false, le-ltb, length, lt-ltb, ltb, ltb-true, map, ne_eqb, refl, subst, sym, true, true≢false, untagged, ℕ, ℕ_discrete, Ok, None, Some, Err}
 use Rattle.lines_model.proofs.Acts.{after, called_is, called-keeps, giver-fits, goal-lt, put, taken}
 use Rattle.lines_model.proofs.Full.{full-two, total-most}
 use Rattle.lines_model.proofs.Order.{order-none}
@@ -103,37 +103,37 @@ module _ (k : Rows) (two : k.kind ≡ 1 → ⊥) where
       pub sorted : Sorted s.next
       pub ranks : OfRanks (in_order (after k c.due a.rows) 0 k.lines) s.next
 
-    same : (r : Refusal) → Agree (denied r) (step (Refused r) l)
+    same : (r : Refusal) → Agree (denied r) (step (Err r) l)
     same r = record { said = refl; sorted = a.sorted; ranks = a.ranks }
 
     agree-if : (t : Bool) (c d : Choice) (s u : Step Answer (List Element)) → (t ≡ true → Agree c s) → (t ≡ false → Agree d u) → Agree (cond t c d) (cond t s u)
     agree-if true c d s u p q = p refl
     agree-if false c d s u p q = q refl
 
-    push-agrees : (x : Element) → Agree (cond (has_room k (word w) (taker k (word w) x)) (choice Done (Put (taker k (word w) x) x)) (denied Full)) (cond (ltb (length l) (k.lines * k.places)) (step Done (insert x l)) (step (Refused Full) l))
+    push-agrees : (x : Element) → Agree (cond (has_room k (word w) (taker k (word w) x)) (choice (Ok None) (Put (taker k (word w) x) x)) (denied Full)) (cond (ltb (length l) (k.lines * k.places)) (step (Ok None) (insert x l)) (step (Err Full) l))
     push-agrees x =
-        subst (λ (b : Bool). Agree (cond (has_room k (word w) (taker k (word w) x)) (choice Done (Put (taker k (word w) x) x)) (denied Full)) (cond b (step Done (insert x l)) (step (Refused Full) l))) (room-is x)
+        subst (λ (b : Bool). Agree (cond (has_room k (word w) (taker k (word w) x)) (choice (Ok None) (Put (taker k (word w) x) x)) (denied Full)) (cond b (step (Ok None) (insert x l)) (step (Err Full) l))) (room-is x)
         (agree-if (has_room k (word w) (taker k (word w) x)) _ _ _ _
         (λ e. record { said = refl; sorted = insert-sorted x l a.sorted; ranks = put-ranks x a.rows l (taker k (word w) x) (ltb-true (taker k (word w) x) k.lines (and_left (ltb (taker k (word w) x) k.lines) _ e)) a.ranks })
         (λ e. same Full))
 
-    pop-agrees : (h : List Element) → l ≡ h → Agree (cond (eqb (total (word w) k.lines) 0) (denied Empty) (choice (Out y) (Take g))) (cond (is_none l) (step (Refused Empty) l) (served Pop l))
+    pop-agrees : (h : List Element) → l ≡ h → Agree (cond (eqb (total (word w) k.lines) 0) (denied Empty) (choice (Ok (Some y)) (Take g))) (cond (is_none l) (step (Err Empty) l) (served Pop l))
     pop-agrees [] e =
         rw (eq-eqb (total (word w) k.lines) 0 (long-is ∙ ap length e))
-        (subst (λ (v : List Element). Agree (denied Empty) (cond (is_none v) (step (Refused Empty) v) (served Pop v))) (sym e) (record { said = refl; sorted = tt; ranks = subst (OfRanks (in_order a.rows 0 k.lines)) e a.ranks }))
+        (subst (λ (v : List Element). Agree (denied Empty) (cond (is_none v) (step (Err Empty) v) (served Pop v))) (sym e) (record { said = refl; sorted = tt; ranks = subst (OfRanks (in_order a.rows 0 k.lines)) e a.ranks }))
     pop-agrees (z ∷ h) e =
         rw (ne_eqb (total (word w) k.lines) 0 (some z h e))
-        (subst (λ (v : List Element). Agree (choice (Out y) (Take g)) (cond (is_none v) (step (Refused Empty) v) (served Pop v))) (sym e)
+        (subst (λ (v : List Element). Agree (choice (Ok (Some y)) (Take g)) (cond (is_none v) (step (Err Empty) v) (served Pop v))) (sym e)
         (record { said = ap (λ (r : ℕ). (0, r)) (same_rank z h e); sorted = (subst Sorted e a.sorted).1; ranks = pop-ranks z h e }))
 
     replace-agrees : (x : Element) (h : List Element) → l ≡ h
-        → Agree (cond (eqb (total (word w) k.lines) 0) (denied Empty) (cond (room_after k (word w) g (goal k g x)) (choice (Out y) (Swap g x)) (denied Full))) (cond (is_none l) (step (Refused Empty) l) (served (Replace x) l))
+        → Agree (cond (eqb (total (word w) k.lines) 0) (denied Empty) (cond (room_after k (word w) g (goal k g x)) (choice (Ok (Some y)) (Swap g x)) (denied Full))) (cond (is_none l) (step (Err Empty) l) (served (Replace x) l))
     replace-agrees x [] e =
         rw (eq-eqb (total (word w) k.lines) 0 (long-is ∙ ap length e))
-        (subst (λ (v : List Element). Agree (denied Empty) (cond (is_none v) (step (Refused Empty) v) (served (Replace x) v))) (sym e) (record { said = refl; sorted = tt; ranks = subst (OfRanks (in_order a.rows 0 k.lines)) e a.ranks }))
+        (subst (λ (v : List Element). Agree (denied Empty) (cond (is_none v) (step (Err Empty) v) (served (Replace x) v))) (sym e) (record { said = refl; sorted = tt; ranks = subst (OfRanks (in_order a.rows 0 k.lines)) e a.ranks }))
     replace-agrees x (z ∷ h) e =
         rw (ne_eqb (total (word w) k.lines) 0 (some z h e), never-full k (word w) (heads k w) x two)
-        (subst (λ (v : List Element). Agree (choice (Out y) (Swap g x)) (cond (is_none v) (step (Refused Empty) v) (served (Replace x) v))) (sym e)
+        (subst (λ (v : List Element). Agree (choice (Ok (Some y)) (Swap g x)) (cond (is_none v) (step (Err Empty) v) (served (Replace x) v))) (sym e)
         (record {
           said = ap (λ (r : ℕ). (0, r)) (same_rank z h e);
           sorted = insert-sorted x h (subst Sorted e a.sorted).1;

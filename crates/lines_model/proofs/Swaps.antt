@@ -1,6 +1,6 @@
 -- REPLACE: "the pop and then the push". Where it is not refused 5 it is answered as a pop is, the push on what the pop leaves is taken, and of every kind of
 -- element as many are stored. In kind 2 it is never 5.
-use Rattle.laws.specs.Prelude.{Bool, Done, Element, Empty, Full, List, Out, Pop, Push, Replace, Request, ◌∙◌, ◌≡◌, ap, arith, cond, eq-eqb, eqb, false, is-upd, length, ne_eqb, number_of, refl, sym, true, untagged, ℕ, ℕ_discrete}
+use Rattle.laws.specs.Prelude.{Bool, Element, Empty, Full, List, Pop, Push, Replace, Request, ◌∙◌, ◌≡◌, ap, arith, cond, eq-eqb, eqb, false, is-upd, length, ne_eqb, number_of, refl, sym, true, untagged, ℕ, ℕ_discrete, Ok, None, Some}
 use Rattle.lines_model.proofs.Acts.{after, behind-length, called_is, Granted, keeps, lets, taken}
 use Rattle.lines_model.proofs.Promises.{is-queue, tested}
 use Rattle.lines_model.proofs.Tests.{room-fails}
@@ -74,7 +74,7 @@ module _ (k : Rows) (w : List ℕ) (m : ℕ → List Element) (s : Sound k w m) 
                 omega arith)
           ]
 
-  push-taken : number_of swapped.answer ≡ 0 → (called k (Push x) (called k Pop w).words).answer ≡ Done
+  push-taken : number_of swapped.answer ≡ 0 → (called k (Push x) (called k Pop w).words).answer ≡ Ok None
   unfolding due_of
   push-taken e =
       let p = come-to (Replace x) e in
@@ -97,9 +97,9 @@ module _ (k : Rows) (w : List ℕ) (m : ℕ → List Element) (s : Sound k w m) 
     unfolding choose
     same-choice = rw (fit, tag) (go (eqb (total (word w) k.lines) 0) (room_after k (word w) g (goal k g x)))
       where
-        go : (a b : Bool) → (number_of (cond {A = Choice} a (denied Empty) (cond b (choice (Out (heads k w g)) (due_of k (word w) (heads k w) (Replace x))) (denied Full))).answer ≡ 5 → ⊥)
-            → (cond {A = Choice} a (denied Empty) (cond b (choice (Out (heads k w g)) (due_of k (word w) (heads k w) (Replace x))) (denied Full))).answer
-            ≡ (cond {A = Choice} a (denied Empty) (choice (Out (heads k w g)) (due_of k (word w) (heads k w) Pop))).answer
+        go : (a b : Bool) → (number_of (cond {A = Choice} a (denied Empty) (cond b (choice (Ok (Some (heads k w g))) (due_of k (word w) (heads k w) (Replace x))) (denied Full))).answer ≡ 5 → ⊥)
+            → (cond {A = Choice} a (denied Empty) (cond b (choice (Ok (Some (heads k w g))) (due_of k (word w) (heads k w) (Replace x))) (denied Full))).answer
+            ≡ (cond {A = Choice} a (denied Empty) (choice (Ok (Some (heads k w g))) (due_of k (word w) (heads k w) Pop))).answer
         go true b n = refl
         go false true n = refl
         go false false n = absurd (n refl)

@@ -1,6 +1,6 @@
 -- The clock: a cycle changes nothing of what the machine settles to, but for the request, which is answered as one at a time. So the settled store is the
 -- one-at-a-time store.
-use Rattle.laws.specs.Prelude.{Answer, BadRank, Bool, Done, Element, Empty, Full, Idle, List, NoTag, Out, Pop, Push, Refused, Replace, Request, ◌&&◌, ◌+◌, ◌-◌, ◌<◌, ◌||◌, ◌∙◌, ◌≡◌, ◌≤◌, and-true, ap, ap₂, arith, cond, dec_lt, eq-eqb, eqb, eqb-false, false, inl, le-ltb, leb, length, length-set, lt-ltb, ltb, ne_eqb, or_right, refl, set, subst, suc, sym, true, zero, ℕ, ℕ_discrete}
+use Rattle.laws.specs.Prelude.{Answer, BadRank, Bool, Element, Empty, Full, Idle, List, NoTag, Pop, Push, Replace, Request, ◌&&◌, ◌+◌, ◌-◌, ◌<◌, ◌||◌, ◌∙◌, ◌≡◌, ◌≤◌, and-true, ap, ap₂, arith, cond, dec_lt, eq-eqb, eqb, eqb-false, false, inl, le-ltb, leb, length, length-set, lt-ltb, ltb, ne_eqb, or_right, refl, set, subst, suc, sym, true, zero, ℕ, ℕ_discrete, Ok, None, Some, Err}
 use Rattle.lines_model.proofs.Acts.{after, called_is, choose-grants, counts-ok, giver-fits, goal-lt, Granted, keeps, lines_ok_lem, shape-ok}
 use Rattle.lines_model.proofs.Row.{other, row-past, same, set_other}
 use Rattle.lines_model.proofs.Which.{lowest-lt, sought, total_ext}
@@ -62,22 +62,22 @@ module _ (k : Rows) (long : ℕ) (s : Shaped k long) (c d : ℕ → ℕ) (e : (i
   unfolding due_of
   late-ext Idle f = refl
   late-ext (Push x) f =
-      ap (λ (l : ℕ). cond (has_room k c l) (choice Done (Put l x)) (denied Full)) (taker-ext x)
-      ∙ ap (λ (b : Bool). cond b (choice Done (Put (taker k d x) x)) (denied Full)) (room-ext (taker k d x))
-  late-ext Pop f = ap₂ (λ (n l : ℕ). cond (eqb n 0) (denied Empty) (choice (Out (h l)) (Take l))) (total_ext c d k.lines e) giver-ext
+      ap (λ (l : ℕ). cond (has_room k c l) (choice (Ok None) (Put l x)) (denied Full)) (taker-ext x)
+      ∙ ap (λ (b : Bool). cond b (choice (Ok None) (Put (taker k d x) x)) (denied Full)) (room-ext (taker k d x))
+  late-ext Pop f = ap₂ (λ (n l : ℕ). cond (eqb n 0) (denied Empty) (choice (Ok (Some (h l))) (Take l))) (total_ext c d k.lines e) giver-ext
   late-ext (Replace x) f =
-      ap₂ (λ (n l : ℕ). cond (eqb n 0) (denied Empty) (cond (room_after k c l (goal k l x)) (choice (Out (h l)) (Swap l x)) (denied Full))) (total_ext c d k.lines e) giver-ext
+      ap₂ (λ (n l : ℕ). cond (eqb n 0) (denied Empty) (cond (room_after k c l (goal k l x)) (choice (Ok (Some (h l))) (Swap l x)) (denied Full))) (total_ext c d k.lines e) giver-ext
       ∙ go (eqb (total d k.lines) 0) refl
     where
       go : (b : Bool) → eqb (total d k.lines) 0 ≡ b
-          → cond b (denied Empty) (cond (room_after k c (giver k d h) (goal k (giver k d h) x)) (choice (Out (h (giver k d h))) (Swap (giver k d h) x)) (denied Full))
-          ≡ cond b (denied Empty) (cond (room_after k d (giver k d h) (goal k (giver k d h) x)) (choice (Out (h (giver k d h))) (Swap (giver k d h) x)) (denied Full))
+          → cond b (denied Empty) (cond (room_after k c (giver k d h) (goal k (giver k d h) x)) (choice (Ok (Some (h (giver k d h)))) (Swap (giver k d h) x)) (denied Full))
+          ≡ cond b (denied Empty) (cond (room_after k d (giver k d h) (goal k (giver k d h) x)) (choice (Ok (Some (h (giver k d h)))) (Swap (giver k d h) x)) (denied Full))
       go true p = refl
       go false p =
           let l = giver k d h in
           let g = goal k l x in
           let y = giver-fits k long s d h (eqb-false (total d k.lines) 0 p) in
-          ap (λ (n : ℕ). cond (eqb l g || ltb n k.places) (choice (Out (h l)) (Swap l x)) (denied Full)) (e g (goal-lt k x f long s l y.0))
+          ap (λ (n : ℕ). cond (eqb l g || ltb n k.places) (choice (Ok (Some (h l))) (Swap l x)) (denied Full)) (e g (goal-lt k x f long s l y.0))
 
   pub choose-ext : (q : Request) → choose k c h q ≡ choose k d h q
   unfolding choose
@@ -250,7 +250,7 @@ cycled-is k q z e f =
     let a = ask_table k q (late_table k (word z.words) (fronts k z) q) in
     let o = grants q (fronts k z (giver k (word z.words) (fronts k z))) in
     rw (e, f)
-    (decided-same (λ (g : Ruling Request). outcome g.answer (written k (due_at k g.op z) z)) (λ (y : Choice). outcome y.answer (written k y.due z)) (λ n. ruling (Refused n) Idle) denied a
+    (decided-same (λ (g : Ruling Request). outcome g.answer (written k (due_at k g.op z) z)) (λ (y : Choice). outcome y.answer (written k y.due z)) (λ n. ruling (Err n) Idle) denied a
     (ruling o q) (choice o (due_at k q z)) (λ n. refl) refl)
 
 module _ (k : Rows) (z : Machine) (f : Flying k z) where

@@ -1,6 +1,6 @@
 -- The lines as a queue that does one operation at a time: what they bring to the calls that every queue has (`promise/specs/Calls.antt`). These are definitions.
 use Rattle.std.specs.Prelude.{◌∷◌}
-use Rattle.laws.specs.Prelude.{Answer, BadShape, Bool, Count, Element, List, Request, [], element_in, length, suc, zero, ℕ}
+use Rattle.laws.specs.Prelude.{Answer, BadShape, Bool, Element, List, Request, [], element_in, length, suc, zero, ℕ, Result, Refusal}
 use Rattle.promise.specs.Calls as calls
 use Rattle.promise.specs.Prelude.{Queue, Step, ends, needs}
 use Rattle.lines_model.specs.Causes.{CountsFit, Shaped}
@@ -65,7 +65,7 @@ module _ (k : Rows) where
   unfoldable pub cleared : List ℕ → Outcome
   cleared w = calls.cleared queue w
 
-  unfoldable pub held_count : List ℕ → Count
+  unfoldable pub held_count : List ℕ → Result ℕ Refusal
   held_count w = calls.held_count queue w
 
   -- the queue as a step function

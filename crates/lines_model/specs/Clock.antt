@@ -1,7 +1,7 @@
 -- The lines by clock cycles: "The counts change in the request's own cycle, the line in the next". What they bring to the calls that every clocked machine has
 -- (`promise/specs/Clock.antt`). These are definitions.
 use Rattle.std.specs.Prelude.{◌&&◌, ◌*◌, ◌+◌, ◌-◌, ◌<◌, ◌||◌, ◌≡◌, ◌≤◌, ◌⊎◌}
-use Rattle.laws.specs.Prelude.{Answer, Bool, Count, Element, List, Request, cond, eqb, false, length, ltb, true, ℕ}
+use Rattle.laws.specs.Prelude.{Answer, Bool, Element, List, Request, cond, eqb, false, length, ltb, true, ℕ, Result, Refusal}
 use Rattle.promise.specs.Calls as calls
 use Rattle.promise.specs.Prelude.{Clock, Drained, Step, cycling, drained_by, grants}
 use Rattle.promise.specs.Clock as clocks
@@ -109,7 +109,7 @@ module _ (k : Rows) where
   unfoldable pub clock_cleared : Machine → calls.Outcome Machine
   clock_cleared m = clocks.cleared_to clock m
 
-  unfoldable pub clock_held : Machine → Count
+  unfoldable pub clock_held : Machine → Result ℕ Refusal
   clock_held m = clocks.held_in clock m
 
   unfoldable pub drains : ℕ → Machine → Drained Machine

@@ -1,6 +1,6 @@
 -- What a request is asked and comes to, by the counts and the lines' first places; and what is done for it. These are definitions.
 use Rattle.std.specs.Prelude.{◌&&◌, ◌+◌, ◌-◌, ◌||◌, ◌∷◌, ◌≡◌}
-use Rattle.laws.specs.Prelude.{Answer, BadRank, Bool, Element, Empty, Full, Idle, List, NoTag, Pop, Push, Refusal, Refused, Replace, Request, [], cond, eqb, leb, ltb, not, set, suc, true, zero, ℕ}
+use Rattle.laws.specs.Prelude.{Answer, BadRank, Bool, Element, Empty, Full, Idle, List, NoTag, Pop, Push, Refusal, Replace, Request, [], cond, eqb, leb, ltb, not, set, suc, true, zero, ℕ, Err}
 use Rattle.promise.specs.Prelude.{Table, Untagged, bars, decided, ends, grants, lacks_tag, needs, stops}
 use Rattle.lines_model.specs.Causes.{LineFit, NoRoom, NoRoomAfter, Ranked}
 use Rattle.lines_model.specs.Layout.{line_of, put_in, row_at, row_in, Rows, without, word}
@@ -90,7 +90,7 @@ choice a d = record { answer = a; due = d }
 
 -- refused there is nothing to be done
 abbrev pub denied : Refusal → Choice
-denied r = choice (Refused r) Rest
+denied r = choice (Err r) Rest
 
 -- let in: pop and replace answer "the first place of the giver"
 abbrev pub let_in : Rows → (ℕ → ℕ) → (ℕ → Element) → Request → Choice

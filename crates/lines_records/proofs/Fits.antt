@@ -1,11 +1,11 @@
 -- What a cycle that ran leaves pending is at one of the lines, so that its number fits a word; and after a drain that ran a cycle nothing is pending.
-use Rattle.laws.specs.Prelude.{Answer, Bool, Element, Idle, Pop, Push, Refused, Replace, Request, ◌+◌, ◌<◌, ◌∙◌, ◌≡◌, ◌≤◌, and_left, ap, arith, eqb-false, false≢true, has_run, length, ltb, ltb-true, number_of, refl, subst, suc, sym, true, zero, ℕ}
+use Rattle.laws.specs.Prelude.{Answer, Element, Idle, Pop, Push, Replace, Request, ◌<◌, ◌∙◌, ◌≡◌, and_left, ap, arith, eqb-false, false≢true, has_run, length, ltb, ltb-true, number_of, refl, suc, true, zero, ℕ, Err}
 use Rattle.lines_model.proofs.Acts.{giver-fits}
 use Rattle.lines_model.proofs.Clocked.{ticks}
 use Rattle.lines_model.proofs.Shaped.{shape-means}
-use Rattle.lines_model.specs.Clock.{clock, drains, due_at, fronts, Machine, cycled, ticking}
+use Rattle.lines_model.specs.Clock.{drains, due_at, fronts, Machine, cycled, ticking}
 use Rattle.lines_model.specs.Layout.{shape_ok, word}
-use Rattle.lines_model.specs.Rules.{ask_table, due_of, giver, late_table, taker, total}
+use Rattle.lines_model.specs.Rules.{ask_table, due_of, late_table, taker, total}
 use Rattle.lines_model.specs.declared.Due.{Due}
 use Rattle.lines_model.specs.declared.Due.TheVariants.{Rest}
 use Rattle.lines_model.specs.declared.Rows.{Rows}
@@ -13,7 +13,7 @@ use Rattle.lines_records.specs.Lent.{line_in, record_of, word_limit}
 use Rattle.lines_work.proofs.Finds.{small}
 use Rattle.promise.proofs.Clock.{either, idle-ran}
 use Rattle.promise.proofs.Drains.{drain-ran, drain-state}
-use Rattle.promise.specs.Prelude.{Clear, Outcome, Step, each-any, idled, leaves}
+use Rattle.promise.specs.Prelude.{Clear, Step, each-any, idled, leaves}
 
 -- the number of what is pending fits a word
 abbrev pub Fit : Due → Type 0
@@ -33,7 +33,7 @@ module _ (k : Rows) where
   pub cycle-fits : (q : Request) (m : Machine) → has_run (cycled k q m).answer ≡ true → Fit (cycled k q m).words.due
   unfolding cycled
   cycle-fits q m =
-      either (ticks k) q m (λ o. has_run o.answer ≡ true → Fit o.words.due) (λ e. absurd (false≢true e)) (λ e. absurd (false≢true e)) (λ s f. each-any (λ n. has_run (Refused n) ≡ true → Fit (due_at k Idle m)) (λ n e. still) (ask_table k q (late_table k (word m.words) (fronts k m) q)))
+      either (ticks k) q m (λ o. has_run o.answer ≡ true → Fit o.words.due) (λ e. absurd (false≢true e)) (λ e. absurd (false≢true e)) (λ s f. each-any (λ n. has_run (Err n) ≡ true → Fit (due_at k Idle m)) (λ n e. still) (ask_table k q (late_table k (word m.words) (fronts k m) q)))
       (λ s f t e. due-fits k (length m.words) s (word m.words) (fronts k m) q t)
     where
       still : Fit (due_at k Idle m)

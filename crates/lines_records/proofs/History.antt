@@ -1,11 +1,10 @@
 -- A list of lent calls is the list of by-value calls: the host's memory holds the machine that they leave.
-use Rattle.laws.specs.Prelude.{Answer, BadShape, Bool, Done, Element, Idle, List, Pop, Push, Refused, Replace, Request, [], ◌<◌, ◌∙◌, ◌≡◌, ◌≤◌, and_left, and-true, ap, arith, cond, false, get_or, get_or-set_same, has_run, le-leb, leb, leb-true, length, length-set, ltb, ltb-false, refl, set, subst, sym, true, true≢false, zero, ℕ}
+use Rattle.laws.specs.Prelude.{BadShape, Bool, Element, Idle, List, Pop, Push, Replace, Request, [], ◌∙◌, ◌≡◌, ◌≤◌, and_left, and-true, ap, arith, cond, false, get_or-set_same, has_run, le-leb, leb, leb-true, length, length-set, ltb, ltb-false, refl, set, subst, sym, true, true≢false, ℕ, Ok, None, Err}
 use Rattle.lines_model.proofs.Clocked.{ticks}
 use Rattle.lines_model.specs.Calls.{wipe}
 use Rattle.lines_model.specs.Clock.{clock, clock_cleared, drains, fresh, fronts, Machine, machine, cycled, ticking}
 use Rattle.lines_model.specs.Layout.{shape_ok, store_words, word}
 use Rattle.lines_model.specs.Rules.{ask_table, giver, late_table}
-use Rattle.lines_model.specs.declared.Due.{Due}
 use Rattle.lines_model.specs.declared.Due.TheVariants.{Rest}
 use Rattle.lines_model.specs.declared.Rows.{Rows}
 use Rattle.lines_records.proofs.Records.{kind-back, read_back}
@@ -13,7 +12,7 @@ use Rattle.lines_records.specs.History.{cleared_memory, Holds, lent_calls, Memor
 use Rattle.lines_records.specs.Lent.{drain_of, first_of, kind_in, LentDrain, lent_cleared, lent_cycled, lent_drains, lent_of, lent_outcome, LentOutcome, LineRecord, no_record, pending_of, readable, record_of, records_back}
 use Rattle.promise.proofs.Clock.{either}
 use Rattle.promise.proofs.Drains.{drain-state}
-use Rattle.promise.specs.Prelude.{Each, Outcome, SoleCall, Step, answers, answers-same, calls, cycle, drain, grants, idled, leaves, leaves-in-step, left, outcome, step}
+use Rattle.promise.specs.Prelude.{Each, Outcome, SoleCall, answers, answers-same, calls, cycle, drain, grants, idled, leaves, leaves-in-step, left, outcome}
 
 -- ---- a cycle that did not run left everything
 runs-granted : (q : Request) (e : Element) → has_run (grants q e) ≡ true
@@ -32,7 +31,7 @@ module _ (k : Rows) where
       no : {A : Type 0} → true ≡ false → A
       no e = absurd (true≢false e)
 
-      late : (r : Request) → Each (λ n. has_run (Refused n) ≡ false → (clock k).moves Idle m ≡ m) (ask_table k r (late_table k (word m.words) (fronts k m) r))
+      late : (r : Request) → Each (λ n. has_run (Err n) ≡ false → (clock k).moves Idle m ≡ m) (ask_table k r (late_table k (word m.words) (fronts k m) r))
       late Idle = (no, (no, tt))
       late (Push x) = (no, (no, (no, tt)))
       late Pop = (no, (no, (no, tt)))
@@ -108,13 +107,13 @@ module _ (k : Rows) where
 
   -- a cleared memory holds the cleared machine, whatever it was
   module _ (rs : List LineRecord) (ws : List ℕ) (h : 1 ≤ length rs) (s : shape_ok k (length ws) ≡ true) where
-    cleared-is : lent_cleared k rs ws ≡ lent_outcome Done (wipe (store_words k) ws) (set rs 0 no_record)
+    cleared-is : lent_cleared k rs ws ≡ lent_outcome (Ok None) (wipe (store_words k) ws) (set rs 0 no_record)
     unfolding lent_cleared clock_cleared
     cleared-is = rw (le-leb 1 (length rs) h, s) refl
 
     fresh-is : fresh k (machine ws Rest) ≡ machine (wipe (store_words k) ws) Rest
     unfolding clock_cleared
-    fresh-is = ap (λ (b : Bool). (cond {A = Outcome Machine} b (outcome Done (machine (wipe (store_words k) ws) Rest)) (left (machine ws Rest) BadShape)).words) s
+    fresh-is = ap (λ (b : Bool). (cond {A = Outcome Machine} b (outcome (Ok None) (machine (wipe (store_words k) ws) Rest)) (left (machine ws Rest) BadShape)).words) s
 
     pub lent-cleared : Holds (cleared_memory k (memory rs ws)) (fresh k (machine ws Rest))
     unfolding readable

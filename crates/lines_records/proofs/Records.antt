@@ -1,5 +1,5 @@
 -- One record read and written, in numbers: what is read of each kind, what is written of each, and that what is written is read again.
-use Rattle.laws.specs.Prelude.{Bool, Element, List, [], ◌&&◌, ◌<◌, ◌∙◌, ◌∷◌, ◌≡◌, ◌≤◌, and_left, ap, element, eq-eqb, false, le-leb, leb, leb-true, length, lt-leb, ne_eqb, not, not-false, refl, subst, sym, true, ℕ}
+use Rattle.laws.specs.Prelude.{arith, eqb, eqb-true, false≢true, suc, zero, sym, Bool, Element, List, [], ◌<◌, ◌∙◌, ◌∷◌, ◌≡◌, ◌≤◌, and_left, ap, eq-eqb, false, le-leb, leb, leb-true, length, lt-leb, ne_eqb, not, not-false, refl, subst, true, ℕ}
 use Rattle.lines_model.specs.declared.Due.{Due}
 use Rattle.lines_model.specs.declared.Due.TheVariants.{Put, Rest, Swap, Take}
 use Rattle.lines_records.specs.Lent.{carries, first_of, kind_in, line_in, LineRecord, pending_of, readable, record_of, word_limit}
@@ -91,3 +91,11 @@ module _ (rs : List LineRecord) where
   pub some : (b : Bool) → b ≡ readable rs → not b ≡ false → 1 ≤ length rs
   unfolding readable
   some b e n = leb-true 1 (length rs) (and_left (leb 1 (length rs)) (leb (kind_in (first_of rs)) 3) (sym e ∙ not-false b n))
+
+-- ---- whether there is a record
+pub none_in : (n : ℕ) (b : Bool) → b ≡ eqb n 0 → b ≡ true → n < 1
+none_in n b e t = omega (arith, eqb-true n 0 (sym e ∙ t))
+
+pub some_in : (n : ℕ) (b : Bool) → b ≡ eqb n 0 → b ≡ false → 1 ≤ n
+some_in zero b e f = absurd (false≢true (sym f ∙ e))
+some_in (suc n) b e f = omega arith

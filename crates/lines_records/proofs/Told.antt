@@ -1,5 +1,5 @@
 -- The calls over the lent record, from what their steps have read, made and written.
-use Rattle.laws.specs.Prelude.{Answer, BadShape, Bool, Done, List, Refused, Request, ◌<◌, ◌∙◌, ◌≡◌, ◌≤◌, ap, arith, cond, false, has_run, le-leb, le-ltb, leb, length, lt-leb, lt-ltb, not, not-false, not-true, refl, set, subst, sym, true, ℕ}
+use Rattle.laws.specs.Prelude.{Answer, BadShape, Bool, List, Request, ◌<◌, ◌∙◌, ◌≡◌, ◌≤◌, ap, arith, cond, false, has_run, le-leb, le-ltb, length, lt-leb, lt-ltb, not, not-false, not-true, refl, set, subst, sym, true, ℕ, Ok, None, Err}
 use Rattle.lines_model.specs.Calls.{wipe}
 use Rattle.lines_model.specs.Clock.{clock_cleared, drains, Machine, machine, cycled}
 use Rattle.lines_model.specs.Layout.{shape_ok, store_words}
@@ -7,7 +7,7 @@ use Rattle.lines_model.specs.declared.Due.{Due}
 use Rattle.lines_model.specs.declared.Due.TheVariants.{Rest}
 use Rattle.lines_model.specs.declared.Rows.{Rows}
 use Rattle.lines_records.proofs.Fits.{cycle-fits, drain-rests, Fit}
-use Rattle.lines_records.specs.Lent.{drain_of, first_of, LentDrain, lent_cleared, lent_cycled, lent_drain, lent_drains, lent_of, lent_outcome, LentOutcome, LineRecord, no_record, pending_of, readable, record_of, records_back}
+use Rattle.lines_records.specs.Lent.{drain_of, first_of, lent_cleared, lent_cycled, lent_drain, lent_drains, lent_of, lent_outcome, LineRecord, no_record, pending_of, readable, record_of, records_back}
 use Rattle.promise.specs.Prelude.{Drained, Outcome, drained, left, outcome}
 
 -- a clear leaves nothing pending, where nothing was
@@ -15,18 +15,18 @@ clear-rests : (k : Rows) (ws : List ℕ) → (clock_cleared k (machine ws Rest))
 unfolding clock_cleared
 clear-rests k ws = go (shape_ok k (length ws))
   where
-    go : (b : Bool) → (cond {A = Outcome Machine} b (outcome Done (machine (wipe (store_words k) ws) Rest)) (left (machine ws Rest) BadShape)).words.due ≡ Rest
+    go : (b : Bool) → (cond {A = Outcome Machine} b (outcome (Ok None) (machine (wipe (store_words k) ws) Rest)) (left (machine ws Rest) BadShape)).words.due ≡ Rest
     go true = refl
     go false = refl
 
 module _ (k : Rows) (rs : List LineRecord) (ws : List ℕ) where
   -- ---- a cycle and a drain, where the record can be read or not
   module _ (b : Bool) (e : b ≡ readable rs) where
-    pub cycle-unread : (q : Request) → not b ≡ true → lent_outcome (Refused BadShape) ws rs ≡ lent_cycled k rs ws q
+    pub cycle-unread : (q : Request) → not b ≡ true → lent_outcome (Err BadShape) ws rs ≡ lent_cycled k rs ws q
     unfolding lent_cycled
     cycle-unread q n = rw (sym e ∙ not-true b n) refl
 
-    pub drain-unread : (budget : ℕ) → not b ≡ true → lent_drain (Refused BadShape) 0 false ws rs ≡ lent_drains k rs ws budget
+    pub drain-unread : (budget : ℕ) → not b ≡ true → lent_drain (Err BadShape) 0 false ws rs ≡ lent_drains k rs ws budget
     unfolding lent_drains
     drain-unread budget n = rw (sym e ∙ not-true b n) refl
 
@@ -70,7 +70,7 @@ module _ (k : Rows) (rs : List LineRecord) (ws : List ℕ) where
             subst Fit (sym rest) (omega arith)
 
   -- ---- clear
-  pub clear-short : length rs < 1 → lent_outcome (Refused BadShape) ws rs ≡ lent_cleared k rs ws
+  pub clear-short : length rs < 1 → lent_outcome (Err BadShape) ws rs ≡ lent_cleared k rs ws
   unfolding lent_cleared
   clear-short h = rw (lt-leb 1 (length rs) h) refl
 

@@ -1,6 +1,6 @@
 -- What is promised of lent calls is said in these words: the host's memory beside a machine that goes by value. These are definitions.
 use Rattle.std.specs.Prelude.{◌≡◌}
-use Rattle.laws.specs.Prelude.{Answer, List, Request, true, ℕ}
+use Rattle.laws.specs.Prelude.{Answer, List, true, ℕ}
 use Rattle.lines_model.specs.Clock.{Machine}
 use Rattle.lines_model.specs.declared.Rows.{Rows}
 use Rattle.lines_records.specs.Lent.{first_of, lent_cleared, lent_cycled, lent_drains, LineRecord, pending_of, readable}

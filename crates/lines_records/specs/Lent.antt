@@ -1,7 +1,7 @@
 -- The clocked lines' calls over a record in the host's own memory: each is the by-value call on what the record holds, and what that leaves is written back. These
 -- are definitions.
 use Rattle.std.specs.Prelude.{◌&&◌, ◌∷◌}
-use Rattle.laws.specs.Prelude.{Answer, BadShape, Bool, Element, List, Refused, Request, [], cond, element, eqb, false, get_or, has_run, leb, length, ltb, set, ℕ}
+use Rattle.laws.specs.Prelude.{Answer, BadShape, Bool, Element, List, Request, [], cond, element, eqb, false, get_or, has_run, leb, length, ltb, set, ℕ, Err}
 use Rattle.lines_model.specs.Clock.{clock_cleared, drains, Machine, machine, cycled}
 use Rattle.lines_model.specs.declared.Due.{Due}
 use Rattle.lines_model.specs.declared.Due.TheVariants.{Put, Rest, Swap, Take}
@@ -90,11 +90,11 @@ module _ (k : Rows) (rs : List LineRecord) (ws : List ℕ) where
   machine_in = machine ws (pending_of (first_of rs))
 
   unfoldable pub lent_cycled : Request → LentOutcome
-  lent_cycled q = cond (readable rs) (lent_of rs (cycled k q machine_in)) (lent_outcome (Refused BadShape) ws rs)
+  lent_cycled q = cond (readable rs) (lent_of rs (cycled k q machine_in)) (lent_outcome (Err BadShape) ws rs)
 
   unfoldable pub lent_drains : ℕ → LentDrain
-  lent_drains budget = cond (readable rs) (drain_of rs (drains k budget machine_in)) (lent_drain (Refused BadShape) 0 false ws rs)
+  lent_drains budget = cond (readable rs) (drain_of rs (drains k budget machine_in)) (lent_drain (Err BadShape) 0 false ws rs)
 
   -- a clear reads no record
   unfoldable pub lent_cleared : LentOutcome
-  lent_cleared = cond (leb 1 (length rs)) (lent_of rs (clock_cleared k (machine ws Rest))) (lent_outcome (Refused BadShape) ws rs)
+  lent_cleared = cond (leb 1 (length rs)) (lent_of rs (clock_cleared k (machine ws Rest))) (lent_outcome (Err BadShape) ws rs)

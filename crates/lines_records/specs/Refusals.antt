@@ -1,6 +1,6 @@
 -- The tables of refusals of the lent calls, and what each refusal leaves behind: words and record. These are definitions.
 use Rattle.std.specs.Prelude.{◌≤◌}
-use Rattle.laws.specs.Prelude.{BadShape, Idle, Ladder, List, Refusal, Refused, Request, length, rung, ℕ}
+use Rattle.laws.specs.Prelude.{BadShape, Idle, Ladder, List, Refusal, Request, length, rung, ℕ, Err}
 use Rattle.lines_model.specs.Clock.{clock, machine, ticking}
 use Rattle.lines_model.specs.declared.Due.TheVariants.{Rest}
 use Rattle.lines_model.specs.declared.Rows.{Rows}
@@ -35,4 +35,4 @@ module _ (k : Rows) (rs : List LineRecord) (ws : List ℕ) where
 
   -- .. and of a clear everything
   abbrev pub lent_clear_left : Refusal → LentOutcome
-  lent_clear_left n = lent_outcome (Refused n) ws rs
+  lent_clear_left n = lent_outcome (Err n) ws rs

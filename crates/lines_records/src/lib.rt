@@ -23,30 +23,21 @@ pub struct LinesReport {
 fn is_readable(records: &[[u32; 5]]) -> bool
     ensures { result ≡ readable records.now }
 {
-    if records.len() < 1 {
-        return false;
-    }
-    let r = records[0];
-    r[0] <= 3
+    !records.is_empty() && records[0][0] <= 3
 }
 
 // What a record holds; the numbers that its kind does not use are not read.
 fn pending_of(r: [u32; 5]) -> Due
     ensures { result ≡ pending_of r }
 {
-    let kind = r[0];
     let line = r[1] as usize;
     let x = element_of(r[2], r[3], r[4]);
-    if kind == 1 {
-        return Due::Put(line, x);
+    match r[0] {
+        1 => Due::Put(line, x),
+        2 => Due::Take(line),
+        3 => Due::Swap(line, x),
+        _ => Due::Rest,
     }
-    if kind == 2 {
-        return Due::Take(line);
-    }
-    if kind == 3 {
-        return Due::Swap(line, x);
-    }
-    Due::Rest
 }
 
 // ---- writing
@@ -56,6 +47,7 @@ fn record_of(due: Due) -> [u32; 5]
     requires { line_in (record_of due) < word_limit }
     ensures { result ≡ record_of due }
 {
+    // each arm hands over other values: a closure for the step would be no plainer
     match due {
         Due::Rest => bare(0, 0),
         Due::Put(l, x) => laden(1, l as u32, x),
@@ -75,10 +67,7 @@ fn bare(kind: u32, line: u32) -> [u32; 5]
 fn laden(kind: u32, line: u32, x: Element) -> [u32; 5]
     ensures { result ≡ laden_record kind line x }
 {
-    let rank = x.rank.0;
-    let tag = x.tag.0;
-    let length = x.length.0;
-    [kind, line, rank, tag, length]
+    [kind, line, x.rank.0, x.tag.0, x.length.0]
 }
 
 // ---- the calls
@@ -88,18 +77,14 @@ pub fn cycle_lent(store: &mut [u32], k: Rows, records: &mut [[u32; 5]], request:
     ensures { lent_outcome result store.new records.new ≡ lent_cycled k records.old store.old request }
 {
     if !is_readable(records) {
-        return Answer::Refused(Refusal::BadShape);
+        return Err(Refusal::BadShape);
     }
-    let r = records[0];
-    let due = pending_of(r);
+    let due = pending_of(records[0]);
     let c = cycle(store, k, due, request);
-    let answer = c.answer;
-    if !has_run(answer) {
-        return answer;
+    if has_run(c.answer) {
+        records[0] = record_of(c.state);
     }
-    let next = c.due;
-    records[0] = record_of(next);
-    answer
+    c.answer
 }
 
 // A drain. The record is written where a cycle was run.
@@ -108,30 +93,20 @@ pub fn drain_lent(store: &mut [u32], k: Rows, records: &mut [[u32; 5]], budget: 
 {
     if !is_readable(records) {
         return LinesReport {
-            answer: Answer::Refused(Refusal::BadShape),
+            answer: Err(Refusal::BadShape),
             cycles: 0,
             left: false,
         };
     }
-    let r = records[0];
-    let due = pending_of(r);
+    let due = pending_of(records[0]);
     let d = drain(store, k, due, budget);
-    let answer = d.answer;
-    let cycles = d.cycles;
-    let left = d.left;
-    if cycles == 0 {
-        return LinesReport {
-            answer,
-            cycles,
-            left,
-        };
+    if d.cycles != 0 {
+        records[0] = record_of(d.state);
     }
-    let next = d.due;
-    records[0] = record_of(next);
     LinesReport {
-        answer,
-        cycles,
-        left,
+        answer: d.answer,
+        cycles: d.cycles,
+        left: d.left,
     }
 }
 
@@ -139,14 +114,12 @@ pub fn drain_lent(store: &mut [u32], k: Rows, records: &mut [[u32; 5]], budget: 
 pub fn clear_lent(store: &mut [u32], k: Rows, records: &mut [[u32; 5]]) -> Answer
     ensures { lent_outcome result store.new records.new ≡ lent_cleared k records.old store.old }
 {
-    if records.len() < 1 {
-        return Answer::Refused(Refusal::BadShape);
+    if records.is_empty() {
+        return Err(Refusal::BadShape);
     }
     let c = clear(store, k, Due::Rest);
-    let answer = c.answer;
-    if !has_run(answer) {
-        return answer;
+    if has_run(c.answer) {
+        records[0] = bare(0, 0);
     }
-    records[0] = bare(0, 0);
-    answer
+    c.answer
 }

@@ -1,5 +1,6 @@
 -- Which line, and whether a line passes, as the code reads them.
-use Rattle.laws.specs.Prelude.{Bool, Element, List, [], ◌&&◌, ◌*◌, ◌+◌, ◌-◌, ◌<◌, ◌||◌, ◌∙◌, ◌∷◌, ◌≡◌, ◌≤◌, ◌⊎◌, add-one, and_assoc, and_left, and_right, and-true, and-unit, ap, ap₂, arith, cond, element_in, eq-eqb, eqb, eqb-true, false, false≢true, inl, inr, le-leb, le-ltb, leb, leb-true, length, lt-ltb, ltb, ltb-true, ne_eqb, not, refl, suc, sym, true, zero, ℕ, ℕ_discrete}
+use Rattle.laws.specs.Prelude.{is_blank as blank_element, subst, Bool, Element, List, [], ◌&&◌, ◌*◌, ◌+◌, ◌-◌, ◌<◌, ◌||◌, ◌∙◌, ◌∷◌, ◌≡◌, ◌≤◌, ◌⊎◌, add-one, and_assoc, and_left, and_right, and-true, and-unit, ap, ap₂, arith, cond, element_in, eq-eqb, eqb, eqb-true, false, false≢true, inl, inr, le-leb, le-ltb, leb, leb-true, length, lt-ltb, ltb, ltb-true, ne_eqb, not, refl, suc, sym, true, zero, ℕ, ℕ_discrete}
+use mir.Val.{bool_byte}
 use Rattle.lines_model.proofs.Keeps.{row_within}
 use Rattle.lines_model.proofs.Which.{line-mono, lowest-lt, spans}
 use Rattle.lines_model.specs.Calls.{heads}
@@ -124,14 +125,14 @@ abbrev pub Scanning : List ℕ → ℕ → ℕ → ℕ → Bool → ℕ → ℕ 
 Scanning w a c r ok spot last b left =
     ((ok && up last (row_in w b left)) ≡ ascends (row_in w a c)) × (spot + at_most r (row_in w b left) ≡ at_most r (row_in w a c)) × (b + 3 * left ≤ length w) × (spot + left ≤ c)
 
-pub scan-first : (w : List ℕ) (a c r : ℕ) → a + 3 * c ≤ length w → Scanning w a c r true 0 0 a c
+scan-first : (w : List ℕ) (a c r : ℕ) → a + 3 * c ≤ length w → Scanning w a c r true 0 0 a c
 scan-first w a c r h = (first (row_in w a c), omega arith, h, omega arith)
   where
     first : (l : List Element) → up 0 l ≡ ascends l
     first [] = unfold ascends in refl
     first (x ∷ l) = ap (λ (b : Bool). b && ascends (x ∷ l)) (le-leb 0 x.rank.0 (omega arith))
 
-pub scan-next : (w : List ℕ) (a c r : ℕ) (ok : Bool) (spot last b left here more : ℕ) → 0 < left → Scanning w a c r ok spot last b left → here ≡ word w b → more ≡ one_more spot (leb here r)
+scan-next : (w : List ℕ) (a c r : ℕ) (ok : Bool) (spot last b left here more : ℕ) → 0 < left → Scanning w a c r ok spot last b left → here ≡ word w b → more ≡ one_more spot (leb here r)
     → Scanning w a c r (ok && leb last here) more here (b + 3) (left - 1)
 unfolding row_in at_most
 scan-next w a c r ok spot last b zero here more h s e p = absurd (omega arith)
@@ -152,6 +153,20 @@ scan-next w a c r ok spot last b (suc n) here more h s e p =
     few : (t : Bool) → spot + suc n ≤ c → one_more spot t + n ≤ c
     few true q = omega arith
     few false q = omega arith
+
+pub scan-start : (w : List ℕ) (a c r : ℕ) → a + 3 * c ≤ length w → Scanning w a c r true 0 0 (a + 3 * 0) (c - 0)
+scan-start w a c r h =
+    let z : a ≡ a + 3 * 0 = omega arith in
+    let y : c ≡ c - 0 = omega arith in
+    subst (λ (b : ℕ). Scanning w a c r true 0 0 b (c - 0)) z (subst (λ (n : ℕ). Scanning w a c r true 0 0 a n) y (scan-first w a c r h))
+
+pub scan-on : (w : List ℕ) (a c r : ℕ) (ok : Bool) (spot last i here more : ℕ) → i < c → Scanning w a c r ok spot last (a + 3 * i) (c - i) → here ≡ word w (a + 3 * i) → more ≡ one_more spot (leb here r)
+    → Scanning w a c r (ok && leb last here) more here (a + 3 * (i + 1)) (c - (i + 1))
+scan-on w a c r ok spot last i here more h s e p =
+    let z : a + 3 * i + 3 ≡ a + 3 * (i + 1) = omega arith in
+    let y : c - i - 1 ≡ c - (i + 1) = omega arith in
+    subst (λ (b : ℕ). Scanning w a c r (ok && leb last here) more here b (c - (i + 1))) z
+    (subst (λ (n : ℕ). Scanning w a c r (ok && leb last here) more here (a + 3 * i + 3) n) y (scan-next w a c r ok spot last (a + 3 * i) (c - i) here more (omega arith) s e p))
 
 pub scan-last : (w : List ℕ) (a c r : ℕ) (ok : Bool) (spot last b left : ℕ) → left ≡ 0 → Scanning w a c r ok spot last b left → ◌≡◌ {A = Look} (record { ok = ok; spot = spot }) (scanned r (row_in w a c))
 unfolding scanned row_in at_most
@@ -233,9 +248,15 @@ pub end_none : (k : Rows) (w : List ℕ) (a c : ℕ) → k.places ≤ c → true
 unfolding blank_end
 end_none k w a c h = rw (le-ltb c k.places h) refl
 
-pub end-some : (k : Rows) (w : List ℕ) (a c : ℕ) (b : Bool) → c < k.places → b ≡ is_blank w (a + (c + c + c)) → b ≡ blank_end k w a c
+blank_is : (w : List ℕ) (b : ℕ) → blank_element (element_in w b) ≡ is_blank w b
+unfolding blank_element
+blank_is w b = sym (and_assoc (eqb (word w b) 0) (eqb (word w (b + 1)) 0) (eqb (word w (b + 2)) 0))
+
+pub end-some : (k : Rows) (w : List ℕ) (a c : ℕ) (b : Bool) (e : Element) → c < k.places → e ≡ element_in w (a + 3 * c) → b ≡ blank_element e → b ≡ blank_end k w a c
 unfolding blank_end
-end-some k w a c b h e = rw (lt-ltb c k.places h) e
+end-some k w a c b e h p q =
+    let z : a + 3 * c ≡ a + (c + c + c) = omega arith in
+    rw (lt-ltb c k.places h) (q ∙ ap blank_element p ∙ blank_is w (a + 3 * c) ∙ ap (is_blank w) z)
 
 pub ends-none : (k : Rows) (l : ℕ) (w : List ℕ) (a c : ℕ) → c ≡ 0 → true ≡ ends_own k l w a c
 unfolding ends_own
@@ -245,8 +266,6 @@ pub ends_some : (k : Rows) (l : ℕ) (w : List ℕ) (a c end : ℕ) (p q : Bool)
 unfolding ends_own
 ends_some k l w a c end p q n e f g = rw (ne_eqb c 0 n) (ap₂ (λ (a b : Bool). a && b) f (g ∙ ap (λ (i : ℕ). own_rank k l (word w i)) e))
 
-pub more_yes : (n : ℕ) (b : Bool) → b ≡ true → n + 1 ≡ one_more n b
-more_yes n b e = rw e refl
-
-pub more_no : (n : ℕ) (b : Bool) → b ≡ false → n ≡ one_more n b
-more_no n b e = rw e refl
+pub more_is : (n : ℕ) (b : Bool) → n + bool_byte b ≡ one_more n b
+more_is n true = refl
+more_is n false = omega arith

@@ -1,5 +1,5 @@
 -- What a request comes to, and its counts, from what the steps have read.
-use Rattle.laws.specs.Prelude.{Bool, Done, Element, Empty, Full, Idle, List, Out, Pop, Push, Replace, Request, ◌+◌, ◌-◌, ◌<◌, ◌∙◌, ◌≡◌, ◌≤◌, ap, ap₂, arith, element_in, eq-eqb, false, le-ltb, length, lt-ltb, ltb, ne_eqb, not, not-false, not-true, refl, set, subst, sym, true, untagged, ℕ, ℕ_discrete}
+use Rattle.laws.specs.Prelude.{Bool, Element, Empty, Full, Idle, List, Pop, Push, Replace, Request, ◌+◌, ◌-◌, ◌<◌, ◌∙◌, ◌≡◌, ◌≤◌, ap, ap₂, arith, element_in, eq-eqb, false, le-ltb, length, lt-ltb, ltb, ne_eqb, not, not-false, not-true, refl, set, subst, sym, true, untagged, ℕ, ℕ_discrete, Ok, None, Some}
 use Rattle.lines_model.proofs.Acts.{giver-fits, goal-lt}
 use Rattle.lines_model.proofs.Row.{other, same}
 use Rattle.lines_model.proofs.Shaped.{shape-means}
@@ -26,9 +26,9 @@ module _ (k : Rows) (w : List ℕ) where
     unfolding come_to
     come-full z n p = rw (room-told ∙ not-true b n) p
 
-    pub come-put : not b ≡ false → choice Done (Put l x) ≡ come_to k (word w) (heads k w) (Push x)
+    pub come-put : not b ≡ false → choice (Ok None) (Put l x) ≡ come_to k (word w) (heads k w) (Push x)
     unfolding come_to due_of
-    come-put n = rw (room-told ∙ not-false b n) (ap (λ (l : ℕ). choice Done (Put l x)) e)
+    come-put n = rw (room-told ∙ not-false b n) (ap (λ (l : ℕ). choice (Ok None) (Put l x)) e)
 
   -- ---- pop
   module _ (held : ℕ) (h : held ≡ total (word w) k.lines) where
@@ -46,16 +46,16 @@ module _ (k : Rows) (w : List ℕ) where
       front-is : y ≡ heads k w (giver k (word w) (heads k w))
       front-is = g ∙ ap (element_in w) (f ∙ ap (row_at k) e)
 
-      pub come-take : choice (Out y) (Take l) ≡ come_to k (word w) (heads k w) Pop
+      pub come-take : choice (Ok (Some y)) (Take l) ≡ come_to k (word w) (heads k w) Pop
       unfolding come_to due_of
-      come-take = rw (ne_eqb (total (word w) k.lines) 0 (some-held n)) (ap₂ (λ (y : Element) (l : ℕ). choice (Out y) (Take l)) front-is e)
+      come-take = rw (ne_eqb (total (word w) k.lines) 0 (some-held n)) (ap₂ (λ (y : Element) (l : ℕ). choice (Ok (Some y)) (Take l)) front-is e)
 
-      pub come-swap : (x : Element) (t : ℕ) (b : Bool) → t ≡ goal k l x → b ≡ room_after k (word w) l t → not b ≡ false → choice (Out y) (Swap l x) ≡ come_to k (word w) (heads k w) (Replace x)
+      pub come-swap : (x : Element) (t : ℕ) (b : Bool) → t ≡ goal k l x → b ≡ room_after k (word w) l t → not b ≡ false → choice (Ok (Some y)) (Swap l x) ≡ come_to k (word w) (heads k w) (Replace x)
       unfolding come_to due_of
       come-swap x t b p q r =
           let z : room_after k (word w) (giver k (word w) (heads k w)) (goal k (giver k (word w) (heads k w)) x) ≡ true =
           ap (λ (j : ℕ). room_after k (word w) j (goal k j x)) (sym e) ∙ ap (room_after k (word w) l) (sym p) ∙ sym q ∙ not-false b r in
-          rw (ne_eqb (total (word w) k.lines) 0 (some-held n), z) (ap₂ (λ (y : Element) (l : ℕ). choice (Out y) (Swap l x)) front-is e)
+          rw (ne_eqb (total (word w) k.lines) 0 (some-held n), z) (ap₂ (λ (y : Element) (l : ℕ). choice (Ok (Some y)) (Swap l x)) front-is e)
 
     -- ---- replace
     pub come-none : (z : Choice) (x : Element) → held ≡ 0 → z ≡ denied Empty → z ≡ come_to k (word w) (heads k w) (Replace x)
@@ -74,7 +74,7 @@ module _ (k : Rows) (w : List ℕ) where
   goal-in s x f l t h e = rw e (goal-lt k x f (length w) ((shape-means k (length w)).says s) l h)
 
   -- ---- any
-  pub come-idle : (q : Request) → q ≡ Idle → choice Done Rest ≡ come_to k (word w) (heads k w) q
+  pub come-idle : (q : Request) → q ≡ Idle → choice (Ok None) Rest ≡ come_to k (word w) (heads k w) q
   unfolding come_to due_of
   come-idle q e = rw e refl
 

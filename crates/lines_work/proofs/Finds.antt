@@ -1,5 +1,6 @@
 -- The shape, and the loops that clear and that find a line.
-use Rattle.laws.specs.Prelude.{Bool, List, [], ◌&&◌, ◌*◌, ◌+◌, ◌<◌, ◌||◌, ◌∙◌, ◌∷◌, ◌≡◌, ◌≤◌, add-one, and_left, and_right, ap, arith, cond, eqb, false, leb, leb-true, length, not, not-false, not-true, refl, set, suc, sym, true, zero, ℕ, ℕ_discrete}
+use Rattle.laws.specs.Prelude.{Bool, List, [], ◌&&◌, ◌*◌, ◌+◌, ◌<◌, ◌||◌, ◌∙◌, ◌∷◌, ◌≡◌, ◌≤◌, add-one, and_left, and_right, ap, arith, cond, eqb, false, leb, leb-true, length, not, not-false, not-true, refl, suc, sym, true, zero, ℕ, ℕ_discrete}
+use Rattle.std.specs.Prelude.{◌++◌, drop, replicate}
 use native.Mathlib.Nat.{mul-le-mul}
 use Rattle.lines_model.proofs.Which.{power-most}
 use Rattle.lines_model.specs.Calls.{wipe}
@@ -85,15 +86,8 @@ told-yes b t e n = sym e ∙ not-false b n
 
 -- ---- clear
 
-pub wipe-none : (w : List ℕ) → w ≡ wipe 0 w
+pub wipe_is : (n : ℕ) (w : List ℕ) → n ≤ length w → replicate n 0 ++ drop n w ≡ wipe n w
 unfolding wipe
-wipe-none w = refl
-
-wipe-suc : (i : ℕ) (w : List ℕ) → i < length w → set (wipe i w) i 0 ≡ wipe (suc i) w
-unfolding wipe
-wipe-suc i [] h = absurd (omega arith)
-wipe-suc zero (x ∷ w) h = refl
-wipe-suc (suc i) (x ∷ w) h = ap (λ (l : List ℕ). 0 ∷ l) (wipe-suc i w (omega arith))
-
-pub wipe-next : (i : ℕ) (w v : List ℕ) → i < length w → v ≡ wipe i w → set v i 0 ≡ wipe (i + 1) w
-wipe-next i w v h e = rw add-one (ap (λ (u : List ℕ). set u i 0) e ∙ wipe-suc i w h)
+wipe_is zero w h = refl
+wipe_is (suc n) [] h = absurd (omega arith)
+wipe_is (suc n) (x ∷ w) h = ap (λ (l : List ℕ). 0 ∷ l) (wipe_is n w (omega arith))

@@ -6,3 +6,4 @@ pub mod Choices
 pub mod Works
 pub mod Comes
 pub mod Ready
+pub mod Powers

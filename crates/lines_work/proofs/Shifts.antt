@@ -1,7 +1,7 @@
 -- A line's places moved by their words: what the copies write is the line with x put in, or its first place taken out.
 use Rattle.laws.specs.Prelude.{Element, List, [], ◌*◌, ◌++◌, ◌+◌, ◌-◌, ◌<◌, ◌∙◌, ◌∷◌, ◌≡◌, ◌≤◌, ap, arith, element_in, inl, inr, length, refl, set, set_comm, suc, sym, write_element, zero, ℕ}
 use Rattle.strip.proofs.Words.{write-comm, write-over, write-own}
-use Rattle.lines_model.proofs.Row.{other, place_other, row-ext, row-length, same, set_snoc}
+use Rattle.lines_model.proofs.Row.{other, place_other, row-ext, row-length, set_snoc}
 use Rattle.lines_model.specs.Layout.{row_in, row_set, word}
 use Rattle.lines_work.specs.Shift.{down, seat, up}
 
@@ -146,10 +146,15 @@ pub up_none : (goal : List ℕ) (w : List ℕ) (b n : ℕ) → n ≡ 0 → up w 
 unfolding up
 up_none goal w b n z e = ap (up w b) (sym z) ∙ e
 
-pub down-again : (goal : List ℕ) (w : List ℕ) (a n : ℕ) → 0 < n → down w a n ≡ goal → down (set w a (word w (a + 3))) (a + 1) (n - 1) ≡ goal
+down-again : (goal : List ℕ) (w : List ℕ) (a n : ℕ) → 0 < n → down w a n ≡ goal → down (set w a (word w (a + 3))) (a + 1) (n - 1) ≡ goal
 unfolding down
 down-again goal w a zero h e = absurd (omega arith)
 down-again goal w a (suc n) h e = let z : suc n - 1 ≡ n = omega arith in rw z e
+
+pub down-on : (goal : List ℕ) (w : List ℕ) (b end : ℕ) → b < end → down w b (end - b) ≡ goal → down (set w b (word w (b + 3))) (b + 1) (end - (b + 1)) ≡ goal
+down-on goal w b end h e =
+    let z : end - (b + 1) ≡ end - b - 1 = omega arith in
+    ap (down (set w b (word w (b + 3))) (b + 1)) z ∙ down-again goal w b (end - b) (omega arith) e
 
 pub down-none : (goal : List ℕ) (w : List ℕ) (a n : ℕ) → n ≡ 0 → down w a n ≡ goal → w ≡ goal
 unfolding down

@@ -1,5 +1,5 @@
 -- The work at a line and the looks at the lines, from what the steps have done.
-use Rattle.laws.specs.Prelude.{Bool, Element, List, ◌&&◌, ◌*◌, ◌+◌, ◌-◌, ◌<◌, ◌||◌, ◌∙◌, ◌≡◌, ◌≤◌, ◌⊎◌, and_left, and_right, ap, ap₂, arith, cond, dec_lt, eq-eqb, eqb, false, false≢true, inl, inr, le-ltb, length, lt-ltb, ltb, ne_eqb, not, refl, subst, sym, true, true≢false, ℕ, ℕ_discrete}
+use Rattle.laws.specs.Prelude.{suc, zero, Bool, Element, List, ◌&&◌, ◌*◌, ◌+◌, ◌-◌, ◌||◌, ◌∙◌, ◌≡◌, ◌≤◌, and_left, and_right, ap, ap₂, arith, cond, dec_lt, eq-eqb, eqb, false, false≢true, inl, inr, length, lt-ltb, ltb, ne_eqb, not, refl, subst, sym, true, true≢false, ℕ, ℕ_discrete}
 use Rattle.lines_model.proofs.Clocked.{moved_length}
 use Rattle.lines_model.proofs.Keeps.{row_before}
 use Rattle.lines_model.proofs.Row.{row-ext, row-length, set-length, set_other}
@@ -54,13 +54,12 @@ lined-none w a c x false true e q = absurd (true≢false q)
 lined-none w a c x false false e q = refl
 
 -- x's place where the first leaves
-pub swap-place : (spot place : ℕ) → ((0 < spot) × (place ≡ spot - 1)) ⊎ ((spot ≤ 0) × (place ≡ 0)) → place ≡ cond (ltb 0 spot) (spot - 1) 0
-swap-place spot place (inl t) = rw (lt-ltb 0 spot t.0) t.1
-swap-place spot place (inr t) = rw (le-ltb 0 spot t.0) t.1
+pub swap-place : (spot place : ℕ) → place ≡ spot - 1 → place ≡ cond (ltb 0 spot) (spot - 1) 0
+swap-place zero place e = e ∙ omega arith
+swap-place (suc n) place e = rw (lt-ltb 0 (suc n) (omega arith)) e
 
-pub swap-few : (w : List ℕ) (a c spot place : ℕ) (x : Element) → Seated w a c spot x → 1 ≤ c → ((0 < spot) × (place ≡ spot - 1)) ⊎ ((spot ≤ 0) × (place ≡ 0)) → place + 1 ≤ c
-swap-few w a c spot place x s h (inl t) = omega (arith, spot-most w a c spot x s, t.0, t.1)
-swap-few w a c spot place x s h (inr t) = omega (arith, t.1)
+pub swap-few : (w : List ℕ) (a c spot place : ℕ) (x : Element) → Seated w a c spot x → 1 ≤ c → place ≡ spot - 1 → place + 1 ≤ c
+swap-few w a c spot place x s h e = omega (arith, spot-most w a c spot x s, e)
 
 -- ---- looks
 

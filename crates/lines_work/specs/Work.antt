@@ -1,14 +1,13 @@
 -- What the steps of the lines' work read and write, by the numbers of elements that the lines have. These are definitions.
 use Rattle.std.specs.Prelude.{◌&&◌, ◌*◌, ◌+◌, ◌-◌, ◌<◌, ◌||◌, ◌≡◌, ◌≤◌}
-use Rattle.laws.specs.Prelude.{Bool, Element, List, cond, eqb, false, length, ltb, not, suc, true, zero, ℕ}
+use Rattle.laws.specs.Prelude.{Bool, Element, List, cond, eqb, false, length, ltb, not, true, ℕ}
 use Rattle.lines_model.specs.Calls.{heads}
 use Rattle.lines_model.specs.Layout.{put_in, row_at, row_in, without, word}
 use Rattle.lines_model.specs.Rules.{ascends, counts_below, goal, is_blank, line_ok, own_rank, total}
 use Rattle.lines_model.specs.declared.Due.{Due}
 use Rattle.lines_model.specs.declared.Due.TheVariants.{Put, Rest, Swap, Take}
 use Rattle.lines_model.specs.declared.Rows.{Rows}
-use Rattle.lines_work.specs.Shift.{at_most, seat}
-use Rattle.promise.specs.FirstIn.{insert}
+use Rattle.lines_work.specs.Shift.{at_most}
 pub use Rattle.lines_work.specs.declared.Look.{Look}
 pub use Rattle.lines_work.specs.declared.Sizes.{Sizes}
 pub use Rattle.lines_work.specs.declared.Totals.{Totals}

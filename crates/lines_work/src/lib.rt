@@ -1,7 +1,7 @@
 // The lines' own work: a line's words, the test of a line, which line, and what is done for a request. One operation at a time and the clock both use it.
 #![tactic(auto)]
 
-ghost use Rattle.std.specs.Prelude.{true, ◌≡◌, ◌*◌, ◌+◌, ◌≤◌, ◌<◌, ltb, length};
+ghost use Rattle.std.specs.Prelude.{true, Bool, ℕ, ◌≡◌, ◌*◌, ◌+◌, ◌≤◌, ◌<◌, length};
 ghost use Rattle.lines_model.specs.Calls.{heads, wipe};
 ghost use Rattle.lines_model.specs.Layout.{line_of, power_of_two, put_in, row_at, row_in, shape_ok, without, word};
 ghost use Rattle.lines_model.specs.Rules as rules;
@@ -14,23 +14,24 @@ ghost use Rattle.strip.specs.declared.Request.TheVariants.{Pop, Push, Replace};
 
 use lines_model::{Choice, Due, Rows};
 use strip::{
-    Answer, Element, Refusal, Request, element_at, is_untagged, no_element, write_element,
+    Answer, Element, Refusal, Request, element_at, is_blank, is_untagged, no_element, write_element,
 };
 
 // The words of a place.
 const PLACE: usize = 3;
 
-// A rank above all.
+// A rank above all, and no Option: so the front of an empty line loses each comparison, and the lowest front is one comparison a line.
 const NONE: u64 = 4294967296;
 
-// The counts seen: whether none is above the places of a line, and their sum.
+// The counts seen: whether none is above the places of a line, and their sum. It is no Option: `sum_up` promises the sum where a count is above too.
 #[derive(Clone, Copy)]
 pub struct Totals {
     pub ok: bool,
     pub sum: usize,
 }
 
-// What the test of a line tells: whether it passes, and how many of its ranks are at most the newcomer's, which is the place where that goes.
+// What the test of a line tells: whether it passes, and how many of its ranks are at most the newcomer's, which is the place where that goes. It is no Option:
+// `look_lines` promises the place of a line that does not pass too.
 #[derive(Clone, Copy)]
 pub struct Look {
     pub ok: bool,
@@ -44,19 +45,15 @@ pub struct Sizes {
     pub takes: usize,
 }
 
-// ---- a line's places move by their words, in loops that are a copy and nothing else
+// ---- a line's places move by their words, in loops that are a copy and nothing else; not by `copy_within`, whose `memmove` the library for C would ask of its host
 
 // n words from word b on move a place up, the last one first.
 fn shift_up(s: &mut [u32], b: usize, n: usize)
     requires { b + n + 3 ≤ length s.old }
     ensures { s.new ≡ up s.old b n }
 {
-    let mut left = n;
-    while left > 0 {
-        left -= 1;
-        let at = b + left;
-        let v = s[at];
-        s[at + PLACE] = v;
+    for left in (0..n).rev() {
+        s[b + left + PLACE] = s[b + left];
     }
 }
 
@@ -65,13 +62,8 @@ fn shift_down(s: &mut [u32], a: usize, n: usize)
     requires { a + n + 3 ≤ length s.old }
     ensures { s.new ≡ down s.old a n }
 {
-    let mut b = a;
-    let mut left = n;
-    while left > 0 {
-        let v = s[b + PLACE];
-        s[b] = v;
-        b += 1;
-        left -= 1;
+    for b in a..a + n {
+        s[b] = s[b + PLACE];
     }
 }
 
@@ -95,8 +87,7 @@ fn take_out(s: &mut [u32], a: usize, c: usize)
     let n = PLACE * (c - 1);
     shift_down(s, a, n);
     let b = a + n;
-    let none = no_element();
-    write_element(s, b, none);
+    write_element(s, b, no_element());
 }
 
 // Both in one line: only the places before x's own move.
@@ -105,14 +96,13 @@ fn swap_at(s: &mut [u32], a: usize, c: usize, spot: usize, x: Element)
     requires seated { Seated s.old a c spot x }
     ensures { s.new ≡ lined s.old a c true true x }
 {
-    let place = if 0 < spot { spot - 1 } else { 0 };
-    let n = PLACE * place;
+    let n = PLACE * spot.saturating_sub(1);
     shift_down(s, a, n);
     let b = a + n;
     write_element(s, b, x);
 }
 
-// The work at one line of c elements that begins at word a: its first place leaves, x comes in, or both.
+// The work at one line of c elements that begins at word a: its first place leaves, x comes in, or both. Two questions and not a kind of work: one leaf has all of it.
 fn work_line(s: &mut [u32], a: usize, c: usize, gives: bool, takes: bool, spot: usize, x: Element)
     requires { Lying s.old a c gives takes spot x }
     ensures { s.new ≡ lined s.old a c gives takes x }
@@ -136,32 +126,19 @@ fn work_line(s: &mut [u32], a: usize, c: usize, gives: bool, takes: bool, spot: 
 fn power_of_two(n: usize) -> bool
     ensures { result ≡ power_of_two n }
 {
-    (n == 1)
-        | (n == 2)
-        | (n == 4)
-        | (n == 8)
-        | (n == 16)
-        | (n == 32)
-        | (n == 64)
-        | (n == 128)
-        | (n == 256)
-        | (n == 512)
+    n.is_power_of_two() & (n <= 512)
 }
 
 // Are these numbers a shape, and has a slice so long room for it?
 pub fn shape_ok(k: Rows, long: usize) -> bool
     ensures { result ≡ shape_ok k long }
 {
-    let kind = k.kind;
-    let lines = k.lines;
-    let places = k.places;
-    let power = power_of_two(lines);
-    let fine = ((kind == 1) | (kind == 2)) & power & (1 <= places) & (places <= 1024);
+    let power = power_of_two(k.lines);
+    let fine = ((k.kind == 1) | (k.kind == 2)) & power & (1 <= k.places) & (k.places <= 1024);
     if !fine {
         return false;
     }
-    let words = lines + PLACE * (lines * places);
-    words <= long
+    k.lines + PLACE * (k.lines * k.places) <= long
 }
 
 // The first word of line l.
@@ -169,9 +146,7 @@ fn row_at(k: Rows, l: usize) -> usize
     requires { (k.lines ≤ 512) × (k.places ≤ 1024) × (l < k.lines) }
     ensures { result ≡ row_at k l }
 {
-    let lines = k.lines;
-    let places = k.places;
-    lines + PLACE * (l * places)
+    k.lines + PLACE * (l * k.places)
 }
 
 // The line of a rank.
@@ -179,9 +154,7 @@ fn line_of(k: Rows, rank: u32) -> usize
     requires { power_of_two k.lines ≡ true }
     ensures { result ≡ line_of k rank }
 {
-    let lines = k.lines;
-    let span = 65536 / lines;
-    (rank as usize) / span
+    rank as usize / (65536 / k.lines)
 }
 
 // Zeros in all words of the lines.
@@ -189,11 +162,7 @@ pub fn wipe_words(s: &mut [u32], n: usize)
     requires { n ≤ length s.old }
     ensures { s.new ≡ wipe n s.old }
 {
-    let mut i = 0;
-    while i < n {
-        s[i] = 0;
-        i += 1;
-    }
+    s[..n].fill(0);
 }
 
 // ---- the counts
@@ -205,25 +174,15 @@ pub fn sum_up(s: &[u32], n: usize, most: usize) -> Totals
 {
     let mut ok = true;
     let mut sum = 0;
-    let mut i = 0;
-    while i < n {
+    for i in 0..n {
         let c = s[i] as usize;
-        ok = ok & (c <= most);
+        ok &= c <= most;
         sum += c;
-        i += 1;
     }
     Totals { ok, sum }
 }
 
 // ---- the test of a line
-
-// One more where it is so.
-fn one_more(n: usize, so: bool) -> usize
-    requires { n < 4294967296 }
-    ensures { result ≡ one_more n so }
-{
-    if so { n + 1 } else { n }
-}
 
 // One pass over the ranks of c places from word a on: do they ascend, and how many are at most this rank?
 fn scan(s: &[u32], a: usize, c: usize, rank: u32) -> Look
@@ -233,15 +192,11 @@ fn scan(s: &[u32], a: usize, c: usize, rank: u32) -> Look
     let mut ok = true;
     let mut spot = 0;
     let mut last = 0;
-    let mut b = a;
-    let mut left = c;
-    while left > 0 {
-        let here = s[b];
-        ok = ok & (last <= here);
-        spot = one_more(spot, here <= rank);
+    for i in 0..c {
+        let here = s[a + PLACE * i];
+        ok &= last <= here;
+        spot += (here <= rank) as usize;
         last = here;
-        b += PLACE;
-        left -= 1;
     }
     Look { ok, spot }
 }
@@ -251,9 +206,8 @@ fn own_rank(k: Rows, l: usize, rank: u32) -> bool
     requires { power_of_two k.lines ≡ true }
     ensures { result ≡ own_rank k l rank }
 {
-    let kind = k.kind;
     let line = line_of(k, rank);
-    (kind != 1) | ((rank < 65536) & (line == l))
+    (k.kind != 1) | ((rank < 65536) & (line == l))
 }
 
 // Do the first and the last of c ranks from word a on belong to line l? Where they ascend, all do then.
@@ -271,26 +225,13 @@ fn ends_own(s: &[u32], k: Rows, l: usize, a: usize, c: usize) -> bool
     first & last
 }
 
-// Is the place at word a 0, 0, 0?
-fn is_blank(s: &[u32], a: usize) -> bool
-    requires { a + 3 ≤ length s.now }
-    ensures { result ≡ rules.is_blank s.now a }
-{
-    let x = s[a];
-    let y = s[a + 1];
-    let z = s[a + 2];
-    (x == 0) & (y == 0) & (z == 0)
-}
-
 // Is place c of the line that begins at word a, where it has one, 0, 0, 0?
 fn blank_end(s: &[u32], k: Rows, a: usize, c: usize) -> bool
     requires { (c ≤ 1024) × (a + 3 * k.places ≤ length s.now) }
     ensures { result ≡ blank_end k s.now a c }
 {
-    let places = k.places;
-    if c < places {
-        let end = a + (c + c + c);
-        return is_blank(s, end);
+    if c < k.places {
+        return is_blank(element_at(s, a + PLACE * c));
     }
     true
 }
@@ -317,6 +258,7 @@ pub fn look_lines(s: &[u32], k: Rows, due: Due, size: Sizes) -> Look
     requires fits { Fits k size due }
     ensures { result ≡ looked k s.now size due }
 {
+    // each arm hands over other values: a closure for the step would be no plainer
     match due {
         Due::Rest => Look { ok: true, spot: 0 },
         Due::Put(l, x) => look_line(s, k, l, size.takes, x.rank.0),
@@ -342,34 +284,16 @@ fn look_two(s: &[u32], k: Rows, l: usize, x: Element, size: Sizes) -> Look
 
 // ---- which line
 
-// The first of n lines whose count is below so many; n where there is none.
-fn first_open(s: &[u32], n: usize, most: usize) -> usize
-    requires { n ≤ length s.now }
-    ensures { result ≡ seek (λ l. ltb (word s.now l) most) n }
+// The first of n lines whose count passes; n where there is none.
+fn first_where<F: Fn(u32) -> bool>(s: &[u32], n: usize, passes: F) -> usize
+    requires words_in { n ≤ length s.now }
+    requires callable { F.IsAlwaysCallable passes }
+    ensures { (t : ℕ → Bool) → ((c : ℕ) (b : Bool) → c < 4294967296 → F.post passes c b → b ≡ t c) → result ≡ seek (λ l. t (word s.now l)) n }
 {
-    let mut i = 0;
-    while i < n {
-        let c = s[i] as usize;
-        if c < most {
+    for i in 0..n {
+        if passes(s[i]) {
             return i;
         }
-        i += 1;
-    }
-    n
-}
-
-// The first of n lines that is not empty; n where there is none.
-fn first_some(s: &[u32], n: usize) -> usize
-    requires { n ≤ length s.now }
-    ensures { result ≡ seek (λ l. ltb 0 (word s.now l)) n }
-{
-    let mut i = 0;
-    while i < n {
-        let c = s[i];
-        if 0 < c {
-            return i;
-        }
-        i += 1;
     }
     n
 }
@@ -391,17 +315,14 @@ fn lowest_line(s: &[u32], k: Rows) -> usize
     requires { shape_ok k (length s.now) ≡ true }
     ensures { result ≡ lowest (word s.now) (heads k s.now) k.lines }
 {
-    let n = k.lines;
     let mut j = 0;
     let mut best = front_of(s, k, 0);
-    let mut i = 0;
-    while i < n {
+    for i in 0..k.lines {
         let here = front_of(s, k, i);
         if here < best {
             best = here;
             j = i;
         }
-        i += 1;
     }
     j
 }
@@ -411,13 +332,10 @@ fn taker_of(s: &[u32], k: Rows, x: Element) -> usize
     requires { shape_ok k (length s.now) ≡ true }
     ensures { result ≡ taker k (word s.now) x }
 {
-    let kind = k.kind;
-    if kind == 1 {
+    if k.kind == 1 {
         return line_of(k, x.rank.0);
     }
-    let lines = k.lines;
-    let places = k.places;
-    first_open(s, lines, places)
+    first_where(s, k.lines, |c| (c as usize) < k.places)
 }
 
 // The line that gives.
@@ -425,10 +343,8 @@ fn giver_of(s: &[u32], k: Rows) -> usize
     requires { shape_ok k (length s.now) ≡ true }
     ensures { result ≡ giver k (word s.now) (heads k s.now) }
 {
-    let kind = k.kind;
-    if kind == 1 {
-        let lines = k.lines;
-        return first_some(s, lines);
+    if k.kind == 1 {
+        return first_where(s, k.lines, |c| 0 < c);
     }
     lowest_line(s, k)
 }
@@ -438,8 +354,7 @@ pub fn goal_of(k: Rows, l: usize, x: Element) -> usize
     requires { power_of_two k.lines ≡ true }
     ensures { result ≡ goal k l x }
 {
-    let kind = k.kind;
-    if kind == 1 {
+    if k.kind == 1 {
         return line_of(k, x.rank.0);
     }
     l
@@ -451,8 +366,7 @@ pub fn goal_of(k: Rows, l: usize, x: Element) -> usize
 pub fn in_range(k: Rows, x: Element) -> bool
     ensures { result ≡ in_range k x }
 {
-    let kind = k.kind;
-    (kind != 1) | (x.rank.0 < 65536)
+    (k.kind != 1) | (x.rank.0 < 65536)
 }
 
 // .. of any request.
@@ -480,17 +394,11 @@ pub fn lacks_tag(q: Request) -> bool
 }
 
 // Is it a line, and not full?
-fn has_room(s: &[u32], k: Rows, l: usize) -> bool
+pub fn has_room(s: &[u32], k: Rows, l: usize) -> bool
     requires { k.lines ≤ length s.now }
     ensures { result ≡ has_room k (word s.now) l }
 {
-    let lines = k.lines;
-    let places = k.places;
-    if l < lines {
-        let c = s[l] as usize;
-        return c < places;
-    }
-    false
+    l < k.lines && (s[l] as usize) < k.places
 }
 
 // Is there room at line g once line l has given?
@@ -498,9 +406,8 @@ fn room_after(s: &[u32], k: Rows, l: usize, g: usize) -> bool
     requires { g < length s.now }
     ensures { result ≡ room_after k (word s.now) l g }
 {
-    let places = k.places;
     let c = s[g] as usize;
-    (l == g) | (c < places)
+    (l == g) | (c < k.places)
 }
 
 // Refused, there is nothing to be done.
@@ -508,7 +415,7 @@ fn denied(r: Refusal) -> Choice
     ensures { result ≡ rules.denied r }
 {
     Choice {
-        answer: Answer::Refused(r),
+        answer: Err(r),
         due: Due::Rest,
     }
 }
@@ -519,12 +426,11 @@ fn come_push(s: &[u32], k: Rows, x: Element) -> Choice
     ensures { result ≡ come_to k (word s.now) (heads k s.now) (Push x) }
 {
     let l = taker_of(s, k, x);
-    let room = has_room(s, k, l);
-    if !room {
+    if !has_room(s, k, l) {
         return denied(Refusal::Full);
     }
     Choice {
-        answer: Answer::Done,
+        answer: Ok(None),
         due: Due::Put(l, x),
     }
 }
@@ -539,10 +445,8 @@ fn come_pop(s: &[u32], k: Rows, held: usize) -> Choice
         return denied(Refusal::Empty);
     }
     let l = giver_of(s, k);
-    let a = row_at(k, l);
-    let y = element_at(s, a);
     Choice {
-        answer: Answer::Out(y),
+        answer: Ok(Some(element_at(s, row_at(k, l)))),
         due: Due::Take(l),
     }
 }
@@ -559,14 +463,11 @@ fn come_replace(s: &[u32], k: Rows, x: Element, held: usize) -> Choice
     }
     let l = giver_of(s, k);
     let g = goal_of(k, l, x);
-    let room = room_after(s, k, l, g);
-    if !room {
+    if !room_after(s, k, l, g) {
         return denied(Refusal::Full);
     }
-    let a = row_at(k, l);
-    let y = element_at(s, a);
     Choice {
-        answer: Answer::Out(y),
+        answer: Ok(Some(element_at(s, row_at(k, l)))),
         due: Due::Swap(l, x),
     }
 }
@@ -578,9 +479,10 @@ pub fn come_to(s: &[u32], k: Rows, q: Request, held: usize) -> Choice
     requires fitting { rank_fit k q ≡ true }
     ensures { result ≡ come_to k (word s.now) (heads k s.now) q }
 {
+    // each arm hands over other values: a closure for the step would be no plainer
     match q {
         Request::Idle => Choice {
-            answer: Answer::Done,
+            answer: Ok(None),
             due: Due::Rest,
         },
         Request::Push(x) => come_push(s, k, x),
@@ -600,19 +502,15 @@ pub fn count(s: &mut [u32], k: Rows, due: Due)
     match due {
         Due::Rest => {}
         Due::Put(l, _) => {
-            let c = s[l];
-            s[l] = c + 1;
+            s[l] += 1;
         }
         Due::Take(l) => {
-            let c = s[l];
-            s[l] = c - 1;
+            s[l] -= 1;
         }
         Due::Swap(l, x) => {
             let g = goal_of(k, l, x);
-            let c = s[l];
-            s[l] = c - 1;
-            let d = s[g];
-            s[g] = d + 1;
+            s[l] -= 1;
+            s[g] += 1;
         }
     }
 }

@@ -1,5 +1,5 @@
 -- The calls, test by test: what each return of the code comes to is what the definition says.
-use Rattle.laws.specs.Prelude.{BadShape, Bool, Count, Damaged, Done, Element, Empty, Full, Held, List, NoHeap, NoTag, Out, Pop, Push, Refusal, Refused, Replace, Request, Unknown, ◌&&◌, ◌*◌, ◌++◌, ◌+◌, ◌-◌, ◌<◌, ◌||◌, ◌∙◌, ◌≡◌, ◌≤◌, ◌⊎◌, and_left, ap, ap₂, arith, blank, cond, count_of, drop, eq-eqb, eqb, false, le-ltb, leb, leb-true, length, lt-ltb, ltb, ltb-true, ne_eqb, not, not-suc-le-zero, refl, replicate, set, subst, suc, sym, true, untagged, zero, ℕ, ℕ_discrete}
+use Rattle.laws.specs.Prelude.{BadShape, Bool, Damaged, Element, Empty, Full, List, NoHeap, NoTag, Pop, Push, Refusal, Replace, Request, ◌&&◌, ◌*◌, ◌++◌, ◌+◌, ◌-◌, ◌<◌, ◌||◌, ◌∙◌, ◌≡◌, ◌≤◌, ◌⊎◌, and_left, ap, ap₂, arith, blank, cond, count_of, drop, eq-eqb, eqb, false, le-ltb, leb, leb-true, length, lt-ltb, ltb, ltb-true, ne_eqb, not, not-suc-le-zero, refl, replicate, set, subst, suc, sym, true, untagged, zero, ℕ, ℕ_discrete, Result, Ok, Err, None, Some}
 use Rattle.packed_model.proofs.Numbers.{Deep, deep}
 use Rattle.packed_model.proofs.Slice.{slot-by}
 use Rattle.packed_model.proofs.Tests.{size-pos}
@@ -11,59 +11,61 @@ use Rattle.packed_model.specs.Words.{capacity, cut_last, depth, extent, last_in,
 use Rattle.packed_way.proofs.Putted.{found-done, found_ok, found-ready, ok-is, run_is}
 use Rattle.packed_way.proofs.Slots.{tagged_is}
 use Rattle.packed_way.proofs.Sinks.{hole-is, hole-not}
+use Rattle.std.specs.Prelude.{None, Option, Some, take}
+use lib.Seq.{length-take-le}
 use Rattle.packed_way.specs.Put.{PutDone, PutFound, put_ok, PutReady, PutSought}
-use Rattle.packed_way.specs.Sink.{Climbed, Found, Reads, Seat, SinkReady, Sought, top}
+use Rattle.packed_way.specs.Sink.{Climbed, Found, Reads, Seat, SinkReady, Sought}
 use Rattle.packed.proofs.Shapes.{Ground, ground, shape-few, shape_is, size-most}
 use Rattle.packed.proofs.Seats.{gets-lies, held-before, held_to, not_top}
 use Rattle.packed.specs.Open.{Opened}
 
 module _ (H levels h : ℕ) (ws : List ℕ) where
   -- ---- held
-  pub held-shape : (s : Bool) → s ≡ shape_ok H levels (length ws) → s ≡ false → Unknown BadShape ≡ held_count H levels h ws
+  pub held-shape : (s : Bool) → s ≡ shape_ok H levels (length ws) → s ≡ false → Err BadShape ≡ held_count H levels h ws
   unfolding held_count
   held-shape s p q = rw (sym p ∙ q) refl
 
-  pub held_none : (s : Bool) → s ≡ shape_ok H levels (length ws) → s ≡ true → H ≤ h → Unknown NoHeap ≡ held_count H levels h ws
+  pub held_none : (s : Bool) → s ≡ shape_ok H levels (length ws) → s ≡ true → H ≤ h → Err NoHeap ≡ held_count H levels h ws
   unfolding held_count
   held_none s p q l = rw (sym p ∙ q, le-ltb h H l) refl
 
-  pub held-bad : (s r : Bool) → s ≡ shape_ok H levels (length ws) → s ≡ true → h < H → r ≡ root_ok H levels h ws → r ≡ false → Unknown Damaged ≡ held_count H levels h ws
+  pub held-bad : (s r : Bool) → s ≡ shape_ok H levels (length ws) → s ≡ true → h < H → r ≡ root_ok H levels h ws → r ≡ false → Err Damaged ≡ held_count H levels h ws
   unfolding held_count
   held-bad s r p q l e f = rw (sym p ∙ q, lt-ltb h H l, sym e ∙ f) refl
 
-  pub held-fine : (s r : Bool) → s ≡ shape_ok H levels (length ws) → s ≡ true → h < H → r ≡ root_ok H levels h ws → r ≡ true → Held (word ws h) ≡ held_count H levels h ws
+  pub held-fine : (s r : Bool) → s ≡ shape_ok H levels (length ws) → s ≡ true → h < H → r ≡ root_ok H levels h ws → r ≡ true → Ok (word ws h) ≡ held_count H levels h ws
   unfolding held_count
   held-fine s r p q l e f = rw (sym p ∙ q, lt-ltb h H l, sym e ∙ f) refl
 
   -- ---- what held says of a call
-  told : (n : ℕ) (y : Refusal) → Held n ≡ Unknown y → ⊥
-  told n y e = subst (λ (c : Count). Is c) e tt
+  told : (n : ℕ) (y : Refusal) → Ok n ≡ Err y → ⊥
+  told n y e = subst (λ (c : Result ℕ Refusal). Is c) e tt
     where
-      Is : Count → Type 0
-      Is (Held n) = Unit {0}
-      Is (Unknown y) = ⊥
+      Is : Result ℕ Refusal → Type 0
+      Is (Ok n) = Unit {0}
+      Is (Err y) = ⊥
 
-  why : Count → Refusal
-  why (Held n) = BadShape
-  why (Unknown y) = y
+  why : Result ℕ Refusal → Refusal
+  why (Ok n) = BadShape
+  why (Err y) = y
 
-  pub called-refused : (r : Request) (y : Refusal) → Unknown y ≡ held_count H levels h ws → outcome (Refused y) ws ≡ called H levels h r ws
+  pub called-refused : (r : Request) (y : Refusal) → Err y ≡ held_count H levels h ws → outcome (Err y) ws ≡ called H levels h r ws
   unfolding held_count called served why
   called-refused r y e = go (shape_ok H levels (length ws)) (ltb h H) (root_ok H levels h ws) e
     where
-      go : (a b c : Bool) → Unknown y ≡ cond a (cond b (cond c (Held (word ws h)) (Unknown Damaged)) (Unknown NoHeap)) (Unknown BadShape)
-          → outcome (Refused y) ws ≡ cond a (cond b (cond c (served H levels h r ws) (outcome (Refused Damaged) ws)) (outcome (Refused NoHeap) ws)) (outcome (Refused BadShape) ws)
-      go false b c e = ap (λ (z : Count). outcome (Refused (why z)) ws) e
-      go true false c e = ap (λ (z : Count). outcome (Refused (why z)) ws) e
-      go true true false e = ap (λ (z : Count). outcome (Refused (why z)) ws) e
+      go : (a b c : Bool) → Err y ≡ cond a (cond b (cond c (Ok (word ws h)) (Err Damaged)) (Err NoHeap)) (Err BadShape)
+          → outcome (Err y) ws ≡ cond a (cond b (cond c (served H levels h r ws) (outcome (Err Damaged) ws)) (outcome (Err NoHeap) ws)) (outcome (Err BadShape) ws)
+      go false b c e = ap (λ (z : Result ℕ Refusal). outcome (Err (why z)) ws) e
+      go true false c e = ap (λ (z : Result ℕ Refusal). outcome (Err (why z)) ws) e
+      go true true false e = ap (λ (z : Result ℕ Refusal). outcome (Err (why z)) ws) e
       go true true true e = absurd (told (word ws h) y (sym e))
 
-  pub opened : (n : ℕ) → Held n ≡ held_count H levels h ws → Opened H levels h n ws
+  pub opened : (n : ℕ) → Ok n ≡ held_count H levels h ws → Opened H levels h n ws
   unfolding held_count
   opened n e = go (shape_ok H levels (length ws)) refl (ltb h H) refl (root_ok H levels h ws) refl e
     where
       go : (a : Bool) → shape_ok H levels (length ws) ≡ a → (b : Bool) → ltb h H ≡ b → (c : Bool) → root_ok H levels h ws ≡ c
-          → Held n ≡ cond a (cond b (cond c (Held (word ws h)) (Unknown Damaged)) (Unknown NoHeap)) (Unknown BadShape) → Opened H levels h n ws
+          → Ok n ≡ cond a (cond b (cond c (Ok (word ws h)) (Err Damaged)) (Err NoHeap)) (Err BadShape) → Opened H levels h n ws
       go false p b q c r e = absurd (told n BadShape e)
       go true p false q c r e = absurd (told n NoHeap e)
       go true p true q false r e = absurd (told n Damaged e)
@@ -130,11 +132,11 @@ module _ (H levels h n : ℕ) (ws : List ℕ) (o : Opened H levels h n ws) where
 
   -- ---- push
   module _ (x : Element) (b : Bool) (tag : b ≡ untagged x) where
-    pub push-tag : b ≡ true → outcome (Refused NoTag) ws ≡ served H levels h (Push x) ws
+    pub push-tag : b ≡ true → outcome (Err NoTag) ws ≡ served H levels h (Push x) ws
     unfolding served reads_ok does
     push-tag t = rw (sym tag ∙ t) refl
 
-    pub push-full : b ≡ false → (count cap : ℕ) → count ≡ n → cap ≡ capacity levels → cap ≤ count → outcome (Refused Full) ws ≡ served H levels h (Push x) ws
+    pub push-full : b ≡ false → (count cap : ℕ) → count ≡ n → cap ≡ capacity levels → cap ≤ count → outcome (Err Full) ws ≡ served H levels h (Push x) ws
     unfolding served reads_ok does
     push-full t count cap p q l = rw (sym tag ∙ t, le-ltb (word ws h) (capacity levels) (omega (arith, p, q, o.held))) refl
 
@@ -157,7 +159,7 @@ module _ (H levels h n : ℕ) (ws : List ℕ) (o : Opened H levels h n ws) where
       reads-is =
           ap (λ (o : Op). way_ok H levels (word ws h) o 1 h ws) (sym op-is) ∙ ok-is H open-ground.shape.one levels (word ws h) d (count + 1 - q) x 1 h ws push_at.inside
 
-      is-pushed : cond (reads_ok H levels h (Push x) ws) (outcome Done (does H levels h (Push x) ws)) (outcome (Refused Damaged) ws) ≡ served H levels h (Push x) ws
+      is-pushed : cond (reads_ok H levels h (Push x) ws) (outcome (Ok None) (does H levels h (Push x) ws)) (outcome (Err Damaged) ws) ≡ served H levels h (Push x) ws
       unfolding served
       is-pushed = rw (sym tag ∙ t, lt-ltb (word ws h) (capacity levels) (omega (arith, p, c, l, o.held))) refl
 
@@ -165,24 +167,24 @@ module _ (H levels h n : ℕ) (ws : List ℕ) (o : Opened H levels h n ws) where
         pub end-lies : H + end * 3 + 3 ≤ length ws
         end-lies = rw pe (spot-lies H levels h d (count + 1 - q) (length ws) push_at.inside open-ground.lies)
 
-        module _ (from : ℕ) (s : PutSought H end x ws from) where
-          found : PutFound H d (count + 1 - q) h x ws from
+        pub push-bad : PutSought H end x ws None → outcome (Err Damaged) ws ≡ served H levels h (Push x) ws
+        push-bad s = let g : put_ok H d (count + 1 - q) h ws ≡ false = s d (count + 1 - q) h o.heap pe in rw (reads-is ∙ g) at is-pushed
+
+        module _ (from : ℕ) (s : PutSought H end x ws (Some from)) where
+          found : PutFound H d (count + 1 - q) h x ws (Some from)
           found = s d (count + 1 - q) h o.heap pe
 
-          pub push-bad : from ≡ 0 → outcome (Refused Damaged) ws ≡ served H levels h (Push x) ws
-          push-bad z = let g : put_ok H d (count + 1 - q) h ws ≡ false = subst (PutFound H d (count + 1 - q) h x ws) z found in rw (reads-is ∙ g) at is-pushed
+          pub push-ready : PutReady H end from (length ws)
+          push-ready = found-ready H open-ground.shape.one d (count + 1 - q) h push_at.upto end pe x ws (length ws) push_at.small end-lies from found
 
-          pub push-ready : (from ≡ 0 → ⊥) → PutReady H end (from - 1) (length ws)
-          push-ready z = found-ready H open-ground.shape.one d (count + 1 - q) h push_at.upto end pe x ws (length ws) push_at.small end-lies from found z
-
-          pub push-done : (from ≡ 0 → ⊥) → (vs : List ℕ) → PutDone H end (from - 1) x ws vs → outcome Done (set vs h (n + 1)) ≡ served H levels h (Push x) ws
+          pub push-done : (vs : List ℕ) → PutDone H end from x ws vs → outcome (Ok None) (set vs h (n + 1)) ≡ served H levels h (Push x) ws
           unfolding does
-          push-done z vs v =
-              let g : put_ok H d (count + 1 - q) h ws ≡ true = found_ok H open-ground.shape.one d (count + 1 - q) h push_at.upto end pe x ws from found z in
+          push-done vs v =
+              let g : put_ok H d (count + 1 - q) h ws ≡ true = found_ok H open-ground.shape.one d (count + 1 - q) h push_at.upto end pe x ws from found in
               let w : vs ≡ run_words H levels (towards levels (word ws h + 1) x) h ws =
-              found-done H open-ground.shape.one d (count + 1 - q) h push_at.upto end pe x ws from found z vs v
+              found-done H open-ground.shape.one d (count + 1 - q) h push_at.upto end pe x ws from found vs v
               ∙ sym (run_is H open-ground.shape.one levels d (count + 1 - q) x h ws push_at.inside) ∙ ap (λ (o : Op). run_words H levels o h ws) op-is in
-              ap₂ (λ (us : List ℕ) (i : ℕ). outcome Done (set us h (i + 1))) w o.held ∙ rw (reads-is ∙ g) at is-pushed
+              ap₂ (λ (us : List ℕ) (i : ℕ). outcome (Ok None) (set us h (i + 1))) w o.held ∙ rw (reads-is ∙ g) at is-pushed
 
   -- ---- sinks, of all levels
   whole : suc (levels - 1) ≡ levels
@@ -200,25 +202,19 @@ module _ (H levels h n : ℕ) (ws : List ℕ) (o : Opened H levels h n ws) where
 
   -- what is sought and found, in words us of this length as they are read
   module _ (us : List ℕ) (len : length us ≡ length ws) (m : ℕ) (x : Element) where
-    pub found_none : Found H (levels - 1) x h us m 0 → way_ok H levels m (sink x) 1 h us ≡ false
+    pub found_none : Found H (levels - 1) x h us m None → way_ok H levels m (sink x) 1 h us ≡ false
     found_none f = subst (λ (k : ℕ). way_ok H k m (sink x) 1 h us ≡ false) whole f
 
-    pub found_some : (r : ℕ) → Found H (levels - 1) x h us m r → (r ≡ 0 → ⊥) → way_ok H levels m (sink x) 1 h us ≡ true
-    found_some zero f n = absurd (n refl)
-    found_some (suc r) f n = subst (λ (k : ℕ). way_ok H k m (sink x) 1 h us ≡ true) whole f.0
+    module _ (r : ℕ) (f : Found H (levels - 1) x h us m (Some r)) where
+      pub found_some : way_ok H levels m (sink x) 1 h us ≡ true
+      found_some = subst (λ (k : ℕ). way_ok H k m (sink x) 1 h us ≡ true) whole f.0
 
-    pub found-room : (r : ℕ) → Found H (levels - 1) x h us m r → (r ≡ 0 → ⊥) → H + (r - 1) * 3 + 3 ≤ length ws
-    found-room zero f n = absurd (n refl)
-    found-room (suc r) f n =
-        let e : suc r - 1 ≡ r = omega arith in
-        rw e (gets-lies H (levels - 1) x h us (length ws) f.1.k r f.1.gets (subst (λ (k : ℕ). Lies H k h (length ws)) (sym whole) open-ground.lies)).0
+      pub found-room : H + r * 3 + 3 ≤ length ws
+      found-room =
+          (gets-lies H (levels - 1) x h us (length ws) f.1.k r f.1.gets (subst (λ (k : ℕ). Lies H k h (length ws)) (sym whole) open-ground.lies)).0
 
-    pub found-run : (r : ℕ) → Found H (levels - 1) x h us m r → (r ≡ 0 → ⊥) → (vs : List ℕ) → Climbed H (r - 1) x us vs → vs ≡ run_words H levels (sink x) h us
-    found-run zero f n vs c = absurd (n refl)
-    found-run (suc r) f n vs c =
-        let e : suc r - 1 ≡ r = omega arith in
-        let g : Climbed H r x us vs = subst (λ (i : ℕ). Climbed H i x us vs) e c in
-        subst (λ (k : ℕ). vs ≡ run_words H k (sink x) h us) whole (g (levels - 1) h o.heap f.1)
+      pub found-run : (vs : List ℕ) → Climbed H r x us vs → vs ≡ run_words H levels (sink x) h us
+      found-run vs c = subst (λ (k : ℕ). vs ≡ run_words H k (sink x) h us) whole (c (levels - 1) h o.heap f.1)
 
   -- ---- the slot of a position
   module _ (count d q : ℕ) (pc : count ≡ n) (some : 0 < n) (e : d ≡ depth levels count) (f : q ≡ size d) where
@@ -254,31 +250,36 @@ module _ (H levels h n : ℕ) (ws : List ℕ) (o : Opened H levels h n ws) where
 
   -- ---- replace
   module _ (x : Element) (b : Bool) (tag : b ≡ untagged x) where
-    pub replace-tag : b ≡ true → outcome (Refused NoTag) ws ≡ served H levels h (Replace x) ws
+    pub replace-tag : b ≡ true → outcome (Err NoTag) ws ≡ served H levels h (Replace x) ws
     unfolding served reads_ok does
     replace-tag t = rw (sym tag ∙ t) refl
 
-    pub replace-none : b ≡ false → n ≡ 0 → outcome (Refused Empty) ws ≡ served H levels h (Replace x) ws
+    pub replace-none : b ≡ false → n ≡ 0 → outcome (Err Empty) ws ≡ served H levels h (Replace x) ws
     unfolding served reads_ok does
     replace-none t z = rw (sym tag ∙ t, eq-eqb (word ws h) 0 (sym o.held ∙ z)) refl
 
-    module _ (t : b ≡ false) (some : n ≡ 0 → ⊥) (last : ℕ) (seat : Seat H h (word ws h) last) (r : ℕ) (s : Sought H (levels - 1) last h h x ws r) where
-      pub found-replace : Found H (levels - 1) x h ws (word ws h) r
-      found-replace = s (word ws h) (held_to H h (word ws h) last open-ground.shape.one seat) ws (λ m l. hole-not H h ws m (λ z. omega (arith, z, l, o.heap)))
+    module _ (t : b ≡ false) (some : n ≡ 0 → ⊥) (last : ℕ) (seat : Seat H h (word ws h) last) where
+      found-replace : (r : Option ℕ) → Sought H (levels - 1) last h h x ws r → Found H (levels - 1) x h ws (word ws h) r
+      found-replace r s = s (word ws h) (held_to H h (word ws h) last open-ground.shape.one seat) ws (λ m l. hole-not H h ws m (λ z. omega (arith, z, l, o.heap)))
 
-      is-replaced : cond (way_ok H levels (word ws h) (sink x) 1 h ws) (outcome (Out (slot_in H ws h)) (run_words H levels (sink x) h ws)) (outcome (Refused Damaged) ws) ≡ served H levels h (Replace x) ws
+      is-replaced : cond (way_ok H levels (word ws h) (sink x) 1 h ws) (outcome (Ok (Some (slot_in H ws h))) (run_words H levels (sink x) h ws)) (outcome (Err Damaged) ws) ≡ served H levels h (Replace x) ws
       unfolding served reads_ok does
       is-replaced = rw (sym tag ∙ t, ne_eqb (word ws h) 0 (λ z. some (o.held ∙ z))) refl
 
-      pub replace-bad : r ≡ 0 → outcome (Refused Damaged) ws ≡ served H levels h (Replace x) ws
-      replace-bad z = rw (found_none ws refl (word ws h) x (subst (Found H (levels - 1) x h ws (word ws h)) z found-replace)) at is-replaced
+      pub replace-bad : Sought H (levels - 1) last h h x ws None → outcome (Err Damaged) ws ≡ served H levels h (Replace x) ws
+      replace-bad s = rw (found_none ws refl (word ws h) x (found-replace None s)) at is-replaced
 
-      pub replace-done : (r ≡ 0 → ⊥) → (e : Element) → e ≡ slot_in H ws h → (vs : List ℕ) → Climbed H (r - 1) x ws vs → outcome (Out e) vs ≡ served H levels h (Replace x) ws
-      replace-done z e p vs c =
-          ap₂ (λ (e : Element) (us : List ℕ). outcome (Out e) us) p (found-run ws refl (word ws h) x r found-replace z vs c) ∙ rw (found_some ws refl (word ws h) x r found-replace z) at is-replaced
+      module _ (r : ℕ) (s : Sought H (levels - 1) last h h x ws (Some r)) where
+        pub replace-room : H + r * 3 + 3 ≤ length ws
+        replace-room = found-room ws refl (word ws h) x r (found-replace (Some r) s)
+
+        pub replace-done : (e : Element) → e ≡ slot_in H ws h → (vs : List ℕ) → Climbed H r x ws vs → outcome (Ok (Some e)) vs ≡ served H levels h (Replace x) ws
+        replace-done e p vs c =
+            ap₂ (λ (e : Element) (us : List ℕ). outcome (Ok (Some e)) us) p (found-run ws refl (word ws h) x r (found-replace (Some r) s) vs c)
+            ∙ rw (found_some ws refl (word ws h) x r (found-replace (Some r) s)) at is-replaced
 
   -- ---- pop
-  pub pop-none : n ≡ 0 → outcome (Refused Empty) ws ≡ served H levels h Pop ws
+  pub pop-none : n ≡ 0 → outcome (Err Empty) ws ≡ served H levels h Pop ws
   unfolding served reads_ok does
   pop-none z = rw (eq-eqb (word ws h) 0 (sym o.held ∙ z)) refl
 
@@ -298,7 +299,7 @@ module _ (H levels h n : ℕ) (ws : List ℕ) (o : Opened H levels h n ws) where
     abbrev pop_by : ℕ → Element → List ℕ → Outcome
     pop_by p e us =
         cond (tagged H ws p && (eqb (word ws h) 1 || way_ok H levels (word ws h - 1) (sink e) 1 h us))
-        (outcome (Out (slot_in H ws h)) (set (cond (eqb (word ws h) 1) us (run_words H levels (sink e) h us)) h (word ws h - 1))) (outcome (Refused Damaged) ws)
+        (outcome (Ok (Some (slot_in H ws h))) (set (cond (eqb (word ws h) 1) us (run_words H levels (sink e) h us)) h (word ws h - 1))) (outcome (Err Damaged) ws)
 
     is-popped : pop_by p last us ≡ served H levels h Pop ws
     unfolding served reads_ok does
@@ -309,19 +310,19 @@ module _ (H levels h n : ℕ) (ws : List ℕ) (o : Opened H levels h n ws) where
       tagged-by : tagged H ws p ≡ not b
       tagged-by = tagged_is H ws p ∙ ap not (ap untagged (sym le) ∙ sym tag)
 
-      pub pop-bare : b ≡ true → outcome (Refused Damaged) ws ≡ served H levels h Pop ws
+      pub pop-bare : b ≡ true → outcome (Err Damaged) ws ≡ served H levels h Pop ws
       pop-bare t = let w : tagged H ws p ≡ false = tagged-by ∙ ap not t in rw w at is-popped
 
       module _ (t : b ≡ false) (top : Element) (pt : top ≡ slot_in H ws h) where
         has : tagged H ws p ≡ true
         has = tagged-by ∙ ap not t
 
-        pub pop-only : n ≡ 1 → (none : Element) (vs : List ℕ) → none ≡ blank → vs ≡ write_slot H ws p none → outcome (Out top) (set vs h 0) ≡ served H levels h Pop ws
+        pub pop-only : n ≡ 1 → (none : Element) (vs : List ℕ) → none ≡ blank → vs ≡ write_slot H ws p none → outcome (Ok (Some top)) (set vs h 0) ≡ served H levels h Pop ws
         pop-only z none vs pn pv =
             let one : word ws h ≡ 1 = sym o.held ∙ z in
-            ap₂ (λ (e : Element) (us : List ℕ). outcome (Out e) (set us h 0)) pt (pv ∙ ap (write_slot H ws p) pn) ∙ ap (λ (i : ℕ). outcome (Out (slot_in H ws h)) (set us h i)) (omega (arith, one)) ∙ rw (has, eq-eqb (word ws h) 1 one) at is-popped
+            ap₂ (λ (e : Element) (us : List ℕ). outcome (Ok (Some e)) (set us h 0)) pt (pv ∙ ap (write_slot H ws p) pn) ∙ ap (λ (i : ℕ). outcome (Ok (Some (slot_in H ws h))) (set us h i)) (omega (arith, one)) ∙ rw (has, eq-eqb (word ws h) 1 one) at is-popped
 
-        module _ (more : n ≡ 1 → ⊥) (seat : Seat H h (word ws h) p) (r : ℕ) (s : Sought H (levels - 1) (p - 1) p h last ws r) where
+        module _ (more : n ≡ 1 → ⊥) (seat : Seat H h (word ws h) p) where
           many : word ws h ≡ 1 → ⊥
           many z = more (o.held ∙ z)
 
@@ -331,26 +332,25 @@ module _ (H levels h n : ℕ) (ws : List ℕ) (o : Opened H levels h n ws) where
           reads-cut : Reads H p ws us
           reads-cut m l = elim (ℕ_discrete m p) [ yes e ↦ hole-is H p ws m (slot_in H us m) e (ap (slot_in H us) e ∙ write_same H ws p blank fits) | no e ↦ write-other H ws p blank m e ∙ hole-not H p ws m e ]
 
-          pub found-pop : Found H (levels - 1) last h us (word ws h - 1) r
-          found-pop = s (word ws h - 1) (held-before H h (word ws h) p open-ground.shape.one (omega (arith, above many)) (not_top H h (word ws h) p open-ground.shape.one (above many) seat) seat) us reads-cut
+          found-pop : (r : Option ℕ) → Sought H (levels - 1) (p - 1) p h last ws r → Found H (levels - 1) last h us (word ws h - 1) r
+          found-pop r s = s (word ws h - 1) (held-before H h (word ws h) p open-ground.shape.one (omega (arith, above many)) (not_top H h (word ws h) p open-ground.shape.one (above many) seat) seat) us reads-cut
 
-          pub pop-stop : r ≡ 0 → outcome (Refused Damaged) ws ≡ served H levels h Pop ws
-          pop-stop z =
-              let w : way_ok H levels (word ws h - 1) (sink last) 1 h us ≡ false = found_none us (write-length H ws p blank) (word ws h - 1) last (subst (Found H (levels - 1) last h us (word ws h - 1)) z found-pop) in
-              rw (has, ne_eqb (word ws h) 1 many, w) at is-popped
+          pub pop-stop : Sought H (levels - 1) (p - 1) p h last ws None → outcome (Err Damaged) ws ≡ served H levels h Pop ws
+          pop-stop s = rw (has, ne_eqb (word ws h) 1 many, found_none us (write-length H ws p blank) (word ws h - 1) last (found-pop None s)) at is-popped
 
-          pub pop-done : (r ≡ 0 → ⊥) → (none : Element) (vs zs : List ℕ) → none ≡ blank → vs ≡ write_slot H ws p none → Climbed H (r - 1) last vs zs → outcome (Out top) (set zs h (n - 1)) ≡ served H levels h Pop ws
-          pop-done z none vs zs pn pv c =
-              let w : way_ok H levels (word ws h - 1) (sink last) 1 h us ≡ true = found_some us (write-length H ws p blank) (word ws h - 1) last r found-pop z in
-              let g : zs ≡ run_words H levels (sink last) h us = found-run us (write-length H ws p blank) (word ws h - 1) last r found-pop z zs (subst (λ (v : List ℕ). Climbed H (r - 1) last v zs) (pv ∙ ap (write_slot H ws p) pn) c) in
-              (λ i. outcome (Out (pt i)) (set (g i) h (o.held i - 1))) ∙ rw (has, ne_eqb (word ws h) 1 many, w) at is-popped
+          module _ (r : ℕ) (s : Sought H (levels - 1) (p - 1) p h last ws (Some r)) where
+            pub pop-done : (none : Element) (vs zs : List ℕ) → none ≡ blank → vs ≡ write_slot H ws p none → Climbed H r last vs zs → outcome (Ok (Some top)) (set zs h (n - 1)) ≡ served H levels h Pop ws
+            pop-done none vs zs pn pv c =
+                let f : Found H (levels - 1) last h us (word ws h - 1) (Some r) = found-pop (Some r) s in
+                let g : zs ≡ run_words H levels (sink last) h us = found-run us (write-length H ws p blank) (word ws h - 1) last r f zs (subst (λ (v : List ℕ). Climbed H r last v zs) (pv ∙ ap (write_slot H ws p) pn) c) in
+                (λ i. outcome (Ok (Some (pt i))) (set (g i) h (o.held i - 1))) ∙ rw (has, ne_eqb (word ws h) 1 many, found_some us (write-length H ws p blank) (word ws h - 1) last r f) at is-popped
 
-          pub pop-room : (r ≡ 0 → ⊥) → H + (r - 1) * 3 + 3 ≤ length ws
-          pop-room z = found-room us (write-length H ws p blank) (word ws h - 1) last r found-pop z
+            pub pop-room : H + r * 3 + 3 ≤ length ws
+            pop-room = found-room us (write-length H ws p blank) (word ws h - 1) last r (found-pop (Some r) s)
 
 -- ---- clear
 module _ (H levels : ℕ) (ws : List ℕ) (s : Bool) (p : s ≡ shape_ok H levels (length ws)) where
-  pub clear-shape : s ≡ false → outcome (Refused BadShape) ws ≡ cleared H levels ws
+  pub clear-shape : s ≡ false → outcome (Err BadShape) ws ≡ cleared H levels ws
   unfolding cleared
   clear-shape q = rw (sym p ∙ q) refl
 
@@ -367,7 +367,8 @@ module _ (H levels : ℕ) (ws : List ℕ) (s : Bool) (p : s ≡ shape_ok H level
       let z : H * n ≡ H * capacity levels = ap (λ (i : ℕ). H * i) e in
       (omega (arith, z, g.slots), g.most, omega (arith, z, g.slice))
 
-  pub clear-done : s ≡ true → (n : ℕ) → n ≡ capacity levels → (vs : List ℕ) → vs ≡ replicate (H + H * n * 3) 0 ++ drop (H + H * n * 3) ws → outcome Done vs ≡ cleared H levels ws
+  pub clear-done : s ≡ true → (n : ℕ) → n ≡ capacity levels → (zs : List ℕ) → zs ≡ replicate (length (take (H + H * n * 3) ws)) 0 → outcome (Ok None) (zs ++ drop (H + H * n * 3) ws) ≡ cleared H levels ws
   unfolding cleared wipe extent
-  clear-done q n e vs f =
-      rw (sym p ∙ q) (ap (outcome Done) (f ∙ ap (λ (i : ℕ). replicate (H + H * i * 3) 0 ++ drop (H + H * i * 3) ws) e))
+  clear-done q n e zs f =
+      let z : zs ≡ replicate (H + H * n * 3) 0 = f ∙ ap (λ (k : ℕ). replicate k 0) (length-take-le (H + H * n * 3) ws (clear-fits q n e).2) in
+      rw (sym p ∙ q) (ap (λ (v : List ℕ). outcome (Ok None) (v ++ drop (H + H * n * 3) ws)) z ∙ ap (λ (i : ℕ). outcome (Ok None) (replicate (H + H * i * 3) 0 ++ drop (H + H * i * 3) ws)) e)

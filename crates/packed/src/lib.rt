@@ -2,20 +2,14 @@
 // its top, then what its request asks; the ways are those of `packed_way`.
 #![tactic(auto)]
 
-ghost use Rattle.std.specs.Prelude.{◌++◌, ◌≡◌, ◌*◌, ◌+◌, ◌<◌, ◌≤◌, drop, length, replicate};
+ghost use Rattle.std.specs.Prelude.{◌≡◌, ◌+◌, ◌<◌, ◌≤◌, length};
 ghost use Rattle.packed_model.specs.Calls.{called, cleared, held_count, outcome, root_ok, served, shape_ok};
 ghost use Rattle.packed_model.specs.Node.{size};
 ghost use Rattle.packed_model.specs.Words.{capacity, depth, slot_at};
 ghost use Rattle.packed.specs.Open.{Around, Opened};
 
 use packed_way::{climb, power, put_down, put_from, rest_slot, set_slot, slot};
-use strip::{Answer, Count, Element, Refusal, Request, is_blank, is_untagged, no_element};
-
-fn wide(x: u32) -> usize
-    ensures { (result ≡ x) × (result < 4294967296) }
-{
-    x as usize
-}
+use strip::{Answer, Element, Refusal, Request, is_blank, is_untagged, no_element};
 
 // ---- the shape
 
@@ -51,9 +45,7 @@ fn depth_of(levels: usize, t: usize) -> usize
     requires { levels ≤ 17 }
     ensures { result ≡ depth levels t }
 {
-    let mut k = levels;
-    while 0 < k {
-        k -= 1;
+    for k in (0..levels).rev() {
         if power(k) <= t {
             return k;
         }
@@ -79,8 +71,7 @@ fn root_ok(s: &[u32], heaps: usize, levels: usize, heap: usize) -> bool
 {
     let n = s[heap];
     let e = slot(s, heaps, heap);
-    let count = wide(n);
-    if capacity_of(levels) < count {
+    if capacity_of(levels) < n as usize {
         return false;
     }
     if n == 0 {
@@ -89,19 +80,19 @@ fn root_ok(s: &[u32], heaps: usize, levels: usize, heap: usize) -> bool
     !is_untagged(e)
 }
 
-pub fn held(store: &[u32], heaps: usize, levels: usize, heap: usize) -> Count
+pub fn held(store: &[u32], heaps: usize, levels: usize, heap: usize) -> Result<u32, Refusal>
     ensures { result ≡ held_count heaps levels heap store.now }
 {
     if !shape_ok(heaps, levels, store.len()) {
-        return Count::Unknown(Refusal::BadShape);
+        return Err(Refusal::BadShape);
     }
     if heaps <= heap {
-        return Count::Unknown(Refusal::NoHeap);
+        return Err(Refusal::NoHeap);
     }
     if !root_ok(store, heaps, levels, heap) {
-        return Count::Unknown(Refusal::Damaged);
+        return Err(Refusal::Damaged);
     }
-    Count::Held(store[heap])
+    Ok(store[heap])
 }
 
 // x towards the position after the n held ones.
@@ -117,22 +108,21 @@ fn push_open(
     ensures { outcome result store.new ≡ served heaps levels heap (Request.Push x) store.old }
 {
     if is_untagged(x) {
-        return Answer::Refused(Refusal::NoTag);
+        return Err(Refusal::NoTag);
     }
-    let count = wide(n);
+    let count = n as usize;
     if capacity_of(levels) <= count {
-        return Answer::Refused(Refusal::Full);
+        return Err(Refusal::Full);
     }
     let d = depth_of(levels, count + 1);
     let q = power(d);
     let end = slot_at(heaps, heap, d, count + 1 - q);
-    let from = put_from(store, heaps, end, x);
-    if from == 0 {
-        return Answer::Refused(Refusal::Damaged);
-    }
-    put_down(store, heaps, end, from - 1, x);
+    let Some(from) = put_from(store, heaps, end, x) else {
+        return Err(Refusal::Damaged);
+    };
+    put_down(store, heaps, end, from, x);
     store[heap] = n + 1;
-    Answer::Done
+    Ok(None)
 }
 
 // The last entry is taken away and sunk from the top.
@@ -141,32 +131,29 @@ fn pop_open(store: &mut [u32], heaps: usize, levels: usize, heap: usize, n: u32)
     ensures { outcome result store.new ≡ served heaps levels heap Request.Pop store.old }
 {
     if n == 0 {
-        return Answer::Refused(Refusal::Empty);
+        return Err(Refusal::Empty);
     }
-    let count = wide(n);
+    let count = n as usize;
     let d = depth_of(levels, count);
     let q = power(d);
     let p = slot_at(heaps, heap, d, count - q);
     let last = slot(store, heaps, p);
     if is_untagged(last) {
-        return Answer::Refused(Refusal::Damaged);
+        return Err(Refusal::Damaged);
     }
     let top = slot(store, heaps, heap);
     if n == 1 {
-        let none = no_element();
-        set_slot(store, heaps, p, none);
+        set_slot(store, heaps, p, no_element());
         store[heap] = 0;
-        return Answer::Out(top);
+        return Ok(Some(top));
     }
-    let end = rest_slot(store, heaps, levels - 1, p - 1, p, heap, last);
-    if end == 0 {
-        return Answer::Refused(Refusal::Damaged);
-    }
-    let none = no_element();
-    set_slot(store, heaps, p, none);
-    climb(store, heaps, end - 1, last);
+    let Some(end) = rest_slot(store, heaps, levels - 1, p - 1, p, heap, last) else {
+        return Err(Refusal::Damaged);
+    };
+    set_slot(store, heaps, p, no_element());
+    climb(store, heaps, end, last);
     store[heap] = n - 1;
-    Answer::Out(top)
+    Ok(Some(top))
 }
 
 // The newcomer is sunk from the top.
@@ -182,74 +169,52 @@ fn replace_open(
     ensures { outcome result store.new ≡ served heaps levels heap (Request.Replace x) store.old }
 {
     if is_untagged(x) {
-        return Answer::Refused(Refusal::NoTag);
+        return Err(Refusal::NoTag);
     }
     if n == 0 {
-        return Answer::Refused(Refusal::Empty);
+        return Err(Refusal::Empty);
     }
-    let count = wide(n);
+    let count = n as usize;
     let d = depth_of(levels, count);
     let q = power(d);
     let last = slot_at(heaps, heap, d, count - q);
     let top = slot(store, heaps, heap);
-    let end = rest_slot(store, heaps, levels - 1, last, heap, heap, x);
-    if end == 0 {
-        return Answer::Refused(Refusal::Damaged);
-    }
-    climb(store, heaps, end - 1, x);
-    Answer::Out(top)
+    let Some(end) = rest_slot(store, heaps, levels - 1, last, heap, heap, x) else {
+        return Err(Refusal::Damaged);
+    };
+    climb(store, heaps, end, x);
+    Ok(Some(top))
 }
 
 pub fn push(store: &mut [u32], heaps: usize, levels: usize, heap: usize, x: Element) -> Answer
     ensures { outcome result store.new ≡ called heaps levels heap (Request.Push x) store.old }
 {
-    let c = held(store, heaps, levels, heap);
-    match c {
-        Count::Unknown(why) => Answer::Refused(why),
-        Count::Held(n) => push_open(store, heaps, levels, heap, n, x),
-    }
+    let n = held(store, heaps, levels, heap)?;
+    push_open(store, heaps, levels, heap, n, x)
 }
 
 pub fn pop(store: &mut [u32], heaps: usize, levels: usize, heap: usize) -> Answer
     ensures { outcome result store.new ≡ called heaps levels heap Request.Pop store.old }
 {
-    let c = held(store, heaps, levels, heap);
-    match c {
-        Count::Unknown(why) => Answer::Refused(why),
-        Count::Held(n) => pop_open(store, heaps, levels, heap, n),
-    }
+    let n = held(store, heaps, levels, heap)?;
+    pop_open(store, heaps, levels, heap, n)
 }
 
 // A pop and then a push: the top is answered, whatever the newcomer's rank.
 pub fn replace(store: &mut [u32], heaps: usize, levels: usize, heap: usize, x: Element) -> Answer
     ensures { outcome result store.new ≡ called heaps levels heap (Request.Replace x) store.old }
 {
-    let c = held(store, heaps, levels, heap);
-    match c {
-        Count::Unknown(why) => Answer::Refused(why),
-        Count::Held(n) => replace_open(store, heaps, levels, heap, n, x),
-    }
-}
-
-// Writes zeros to the first n words.
-fn zero_words(s: &mut [u32], n: usize)
-    requires { n ≤ length s.old }
-    ensures { s.new ≡ replicate n 0 ++ drop n s.old }
-{
-    let mut i = 0;
-    while i < n {
-        s[i] = 0;
-        i += 1;
-    }
+    let n = held(store, heaps, levels, heap)?;
+    replace_open(store, heaps, levels, heap, n, x)
 }
 
 pub fn clear(store: &mut [u32], heaps: usize, levels: usize) -> Answer
     ensures { outcome result store.new ≡ cleared heaps levels store.old }
 {
     if !shape_ok(heaps, levels, store.len()) {
-        return Answer::Refused(Refusal::BadShape);
+        return Err(Refusal::BadShape);
     }
     let n = capacity_of(levels);
-    zero_words(store, heaps + heaps * n * 3);
-    Answer::Done
+    store[..heaps + heaps * n * 3].fill(0);
+    Ok(None)
 }

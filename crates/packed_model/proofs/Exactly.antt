@@ -1,5 +1,5 @@
 -- EXACTLY: every test stands for its cause, so every refusal is given exactly for its cause, and leaves every word.
-use Rattle.laws.specs.Prelude.{Bool, Exactly, Fails, Idle, List, Means, Pop, Push, Replace, Request, Unknown, ◌*◌, ◌+◌, ◌-◌, ◌<◌, ◌≡◌, ◌≤◌, ◌⊎◌, and_left, arith, cond, count_number, eqb, fails-and, fails-leb, fails-not-eqb, fails-or, fails-true, false, false≢true, inl, inr, leb, leb-true, length, means-and, means-by, means-eqb, means-leb, means-ltb, means-no, means-not, means-off, not, number_of, refl, suc, true, zero, ℕ, ⊎_elim}
+use Rattle.laws.specs.Prelude.{Bool, Exactly, Fails, Idle, List, Means, Pop, Push, Replace, Request, ◌*◌, ◌+◌, ◌-◌, ◌<◌, ◌≡◌, ◌≤◌, ◌⊎◌, and_left, arith, cond, count_number, eqb, fails-and, fails-leb, fails-not-eqb, fails-or, fails-true, false, false≢true, inl, inr, leb, leb-true, length, means-and, means-by, means-eqb, means-leb, means-ltb, means-no, means-not, means-off, not, number_of, refl, suc, true, zero, ℕ, ⊎_elim, Err}
 use Rattle.packed_model.specs.Calls.{called, cleared, does, heap, held_count, reads_ok, root_ok, shape_ok}
 use Rattle.packed_model.specs.Causes.{NotZero, NoTagAt, OwnDamaged, PathDamaged, PlaceDamaged, RootDamaged, Shape, WayDamaged}
 use Rattle.packed_model.specs.Node.{none, Op, put, sink, Stepped}
@@ -103,7 +103,7 @@ module _ (H levels h : ℕ) where
   exactly ws Pop = calls.exactly tested Pop ws
   exactly ws (Replace x) = calls.exactly tested (Replace x) ws
 
-  pub exactly-held : (ws : List ℕ) → Exactly count_number Unknown (held_count H levels h ws) (held_refusals H levels h ws)
+  pub exactly-held : (ws : List ℕ) → Exactly count_number Err (held_count H levels h ws) (held_refusals H levels h ws)
   unfolding held_count
   exactly-held ws = calls.exactly-held tested ws
 

@@ -1,7 +1,7 @@
 -- The promises: from a cleared store, over any list of calls at any heaps, every heap is packed and in order, nothing is damaged, each heap holds exactly what went
 -- in and has not come out, and what comes out has the lowest rank. What is kept between calls makes each heap a queue (`is-queue`) and all of them a forest
 -- (`is-forest`); what follows is every queue's (`promise/proofs/Kept.antt`, `Forest.antt`).
-use Rattle.laws.specs.Prelude.{Bool, Done, Element, List, Replace, Request, ◌*◌, ◌+◌, ◌<◌, ◌∙◌, ◌≡◌, ◌⊎◌, ap, arith, blank, count_number, count_of, element, false, inl, inr, leb, leb-false, leb-true, length, lt-ltb, ltb-true, map, not-suc-le-zero, number_of, refl, subst, suc, sym, true, untagged, zero, ℕ, ℕ_discrete}
+use Rattle.laws.specs.Prelude.{Bool, Element, List, Replace, Request, ◌*◌, ◌+◌, ◌<◌, ◌∙◌, ◌≡◌, ◌⊎◌, ap, arith, blank, count_number, count_of, element, false, inl, inr, leb, leb-false, leb-true, length, lt-ltb, ltb-true, map, not-suc-le-zero, number_of, refl, subst, suc, sym, true, untagged, zero, ℕ, ℕ_discrete, Ok, None}
 use Rattle.laws.specs.Zeros.{Zeroed, zeroed}
 use Rattle.packed_model.proofs.Exactly.{barred, root-limit, shape-means, tested}
 use Rattle.packed_model.proofs.Heap.{none-held}
@@ -169,7 +169,7 @@ module _ (H k h : ℕ) (is : h < H) where
   kept-replaces x tag ws kept = queue.kept-replaces (is-queue H k h is) (swaps H k h is) x tag ws kept tt
 
 -- CLEAR
-pub clear-zeroes : (H k : ℕ) (ws : List ℕ) → Shape H (suc k) (length ws) → ((cleared H (suc k) ws).answer ≡ Done) × Zeroed (extent H (suc k)) ws (cleared H (suc k) ws).words
+pub clear-zeroes : (H k : ℕ) (ws : List ℕ) → Shape H (suc k) (length ws) → ((cleared H (suc k) ws).answer ≡ Ok None) × Zeroed (extent H (suc k)) ws (cleared H (suc k) ws).words
 unfolding cleared
 clear-zeroes H k ws sh = rw ((shape-means H (suc k) (length ws)).holds sh) (refl, wiped H k ws sh)
 
@@ -180,7 +180,7 @@ module _ (H k : ℕ) (ws : List ℕ) (sh : Shape H (suc k) (length ws)) where
 
   pub start_is : start H (suc k) ws ≡ wipe (extent H (suc k)) ws
   unfolding cleared
-  start_is = ap (λ (o : Outcome). o.words) (decided-clear (calls.left ws) ((heap H (suc k) 0).clearing ws) (calls.outcome Done (wipe (extent H (suc k)) ws)) fits)
+  start_is = ap (λ (o : Outcome). o.words) (decided-clear (calls.left ws) ((heap H (suc k) 0).clearing ws) (calls.outcome (Ok None) (wipe (extent H (suc k)) ws)) fits)
 
   pub start-kept : Kept H k (start H (suc k) ws)
   start-kept = subst (Kept H k) (sym start_is) (wiped-kept H k ws sh)

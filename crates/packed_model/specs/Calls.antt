@@ -1,7 +1,7 @@
 -- The five calls of the packed heap, each a total function of H, levels, the heap's number and the words to an answer and the words afterwards: what a heap
 -- brings, to the calls that every queue has (`promise/specs/Calls.antt`).
 use Rattle.std.specs.Prelude.{◌&&◌, ◌*◌, ◌++◌, ◌+◌, ◌-◌, ◌<◌, ◌||◌}
-use Rattle.laws.specs.Prelude.{Answer, BadShape, Bool, Count, Idle, List, NoHeap, Pop, Push, Replace, Request, cond, drop, eqb, leb, length, ltb, replicate, set, true, ℕ}
+use Rattle.laws.specs.Prelude.{Answer, BadShape, Bool, Idle, List, NoHeap, Pop, Push, Replace, Request, cond, drop, eqb, leb, length, ltb, replicate, set, true, ℕ, Result, Refusal}
 use Rattle.packed_model.specs.Causes.{RootDamaged, Shape, WayDamaged}
 use Rattle.packed_model.specs.Heap.{many}
 use Rattle.packed_model.specs.Node.{sink}
@@ -76,7 +76,7 @@ module _ (H levels h : ℕ) where
   called r ws = calls.called heap r ws
 
   -- "Held: 1, 12, 2"
-  unfoldable pub held_count : List ℕ → Count
+  unfoldable pub held_count : List ℕ → Result ℕ Refusal
   held_count ws = calls.held_count heap ws
 
 unfoldable pub cleared : ℕ → ℕ → List ℕ → Outcome

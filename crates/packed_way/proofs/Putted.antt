@@ -1,5 +1,6 @@
 -- The put's way by itself is that of the rules; each step of the code's two walks, up its way and down again, is one of it.
 use Rattle.laws.specs.Prelude.{Bool, Element, List, ◌&&◌, ◌*◌, ◌+◌, ◌-◌, ◌/◌, ◌<◌, ◌^◌, ◌∙◌, ◌≡◌, ◌≤◌, and-unit, ap, ap₂, arith, cond, false, is_blank, keep, key, le-ltb, leb, leb-false, leb-true, lt-ltb, ltb, not, not-suc-le-zero, pass, refl, subst, suc, sym, true, untagged, zero, ℕ}
+use Rattle.std.specs.Prelude.{Some}
 use mathlib.Core.Bool.{and-false}
 use native.Mathlib.Nat.{add-mul, div-eq_of_lt, div-le_self, le-div_iff_mul-le, mul-add, mul-add-div_right}
 use Rattle.packed_model.proofs.Slice.{size_is, slot-by}
@@ -174,11 +175,11 @@ module _ (H : ℕ) (pos : 0 < H) where
             (on-by k c.rest p best c.left c.at c.comes l c.fine c.from c.same (ltb x.rank.0 (slot_in H ws ((p - H) / 2)).rank.0) refl (ap untagged (sym s) ∙ u)))
 
         top-by : (k j p best left at : ℕ) → Comes H d r m k j p → p < H → put_ok H k j p ws ≡ true → Comes H d r m best left at → put_run H k j p x ws ≡ put_run H best left at x ws
-            → PutFound H d r m x ws (suc best)
+            → PutFound H d r m x ws (Some best)
         top-by k j p best left at start l ok from same = (ok, record { rest = left; at = at; comes = from; same = same })
         top-by k j p best left at (down f i q c) l ok from same = absurd (not_top q (turn_of f i) l)
 
-        pub climbs-top : (k p best : ℕ) → Climbs H d r m x ws k p best → p < H → PutFound H d r m x ws (suc best)
+        pub climbs-top : (k p best : ℕ) → Climbs H d r m x ws k p best → p < H → PutFound H d r m x ws (Some best)
         climbs-top k p best c l = top-by k c.rest p best c.left c.at c.comes l c.fine c.from c.same
 
   -- ---- the walk down: from the slot k levels above `end`
@@ -224,37 +225,26 @@ module _ (H : ℕ) (pos : 0 < H) where
 
   -- ---- the two walks together
   module _ (d r m : ℕ) (within : r < size d) (end : ℕ) (lands : end ≡ slot_at H m d r) (x : Element) (ws : List ℕ) where
-    pub found_ok : (f : ℕ) → PutFound H d r m x ws f → (f ≡ 0 → ⊥) → put_ok H d r m ws ≡ true
-    found_ok zero g n = absurd (n refl)
-    found_ok (suc k) g n = g.0
+    pub found_ok : (k : ℕ) → PutFound H d r m x ws (Some k) → put_ok H d r m ws ≡ true
+    found_ok k g = g.0
 
-    pub found-ready : (len : ℕ) → d ≤ 16 → H + end * 3 + 3 ≤ len → (f : ℕ) → PutFound H d r m x ws f → (f ≡ 0 → ⊥) → PutReady H end (f - 1) len
-    found-ready len few room zero g n = absurd (n refl)
-    found-ready len few room (suc k) g n =
-        let w : k ≡ suc k - 1 = omega arith in
+    pub found-ready : (len : ℕ) → d ≤ 16 → H + end * 3 + 3 ≤ len → (k : ℕ) → PutFound H d r m x ws (Some k) → PutReady H end k len
+    found-ready len few room k g =
         let t : Starts H d r m x ws k = g.1 in
         let b : slot_at H t.at k t.rest + H ≡ t.at * size k + H * size k + t.rest = slot-by H t.at k t.rest (comes-within d r m within k t.rest t.at t.comes) in
-        subst (λ (i : ℕ). PutReady H end i len) w
-        (record {
+        record {
           one = pos;
           few = omega (arith, few, comes-few d r m k t.rest t.at t.comes);
           room = room;
           below = omega (arith, b, lands, comes-to d r m k t.rest t.at t.comes);
-        })
+        }
 
-    pub found-done : (f : ℕ) → PutFound H d r m x ws f → (f ≡ 0 → ⊥) → (vs : List ℕ) → PutDone H end (f - 1) x ws vs → vs ≡ put_run H d r m x ws
-    found-done zero g n vs p = absurd (n refl)
-    found-done (suc k) g n vs p =
-        let w : suc k - 1 ≡ k = omega arith in
+    pub found-done : (k : ℕ) → PutFound H d r m x ws (Some k) → (vs : List ℕ) → PutDone H end k x ws vs → vs ≡ put_run H d r m x ws
+    found-done k g vs done =
         let t : Starts H d r m x ws k = g.1 in
-        let done : PutDone H end k x ws vs = subst (λ (i : ℕ). PutDone H end i x ws vs) w p in
         done t.rest t.at (comes-within d r m within k t.rest t.at t.comes) (lands ∙ sym (comes-to d r m k t.rest t.at t.comes)) ∙ sym t.same
 
 -- ---- the numbers of both walks
-pub higher-most : (b : Bool) (k best next : ℕ) → best ≤ k → next ≡ cond b (k + 1) best → next ≤ k + 1
-higher-most true k best next l e = omega (arith, e)
-higher-most false k best next l e = omega (arith, e, l)
-
 pub up_least : (H k n : ℕ) → H * size k ≤ n → H ≤ n / 2 ^ k
 up_least H k n l = rw (← size_is k) ((le-div_iff_mul-le (size-pos k)).1 l)
 

@@ -1,12 +1,15 @@
 -- The walk down a sink's way, and the climb back.
-use Rattle.laws.specs.Prelude.{Bool, Element, List, ◌&&◌, ◌*◌, ◌+◌, ◌-◌, ◌/◌, ◌<◌, ◌||◌, ◌∙◌, ◌≡◌, ◌≤◌, ◌⊎◌, ap, ap₂, arith, blank, cond, eqb, false, inl, inr, is_blank, le-leb, leb, leb-false, leb-true, length, lt-leb, ltb, not, not-suc-le-zero, refl, subst, suc, sym, true, untagged, zero, ℕ}
+use Rattle.laws.specs.Prelude.{Bool, Element, List, ◌&&◌, ◌*◌, ◌+◌, ◌-◌, ◌/◌, ◌<◌, ◌||◌, ◌∙◌, ◌≡◌, ◌≤◌, ◌⊎◌, ap, ap₂, arith, blank, cond, eqb, false, inl, inr, is_blank, le-leb, leb, leb-false, leb-true, length, lt-leb, ltb, ltb-false, ltb-true, not, not-suc-le-zero, refl, subst, suc, sym, true, untagged, zero, ℕ}
 use Rattle.packed_model.proofs.Ways.{way-none}
 use Rattle.packed_model.proofs.Words.{words-none, write-other}
 use Rattle.packed_model.specs.Node.{lhs, lifts, lower_side, none, pick, rhs, Side, sink, sink_by, size, step, Stepped, stepped}
 use Rattle.packed_model.specs.Words.{below, child, Lies, own_ok, place_ok, run_words, slot_in, step_in, top_in, touch, way_ok, word, works, write_slot}
 use Rattle.packed_way.proofs.Sinks.{Leads, read_goes, read-stay, read-torn}
 use Rattle.packed_way.proofs.Slots.{tagged_is, zero_is}
-use Rattle.packed_way.specs.Sink.{EdgeSought, Ends, fine, Found, Gets, HeldTo, on, Reads, Seat, side_number, sink_to, slot_but, Sought, top, Walk}
+use Rattle.packed_way.specs.Sink.{EdgeSought, Ends, fine, Found, Gets, HeldTo, on, Reads, Seat, sink_to, slot_but, Sought, top, towards, Walk}
+use Rattle.packed_way.specs.declared.Goes.{Goes}
+use Rattle.packed_way.specs.declared.Goes.TheVariants.{Nowhere}
+use Rattle.std.specs.Prelude.{min, None, Option, Some}
 
 -- ---- seats
 pub seat-top : (H h : ℕ) → Seat H h 1 h
@@ -35,13 +38,27 @@ same-leb a b c d f = go (leb c d) refl
         above : (a ≤ b → ⊥) → b < a
         above n = omega arith
 
+-- ---- what a step tells: that a child is damaged, that x stays, and to which side it goes
+some-not : (g : Goes) → None ≡ Some g → ⊥
+some-not g e = cc
+
+moves : (d : Side) → Some (towards d) ≡ Some Nowhere → ⊥
+moves lhs e = cc
+moves rhs e = cc
+
+same_side : (d e : Side) → Some (towards d) ≡ Some (towards e) → d ≡ e
+same_side lhs lhs z = refl
+same_side lhs rhs z = cc
+same_side rhs lhs z = cc
+same_side rhs rhs z = refl
+
 -- ---- down
 module _ (H left : ℕ) (x : Element) (h : ℕ) (us : List ℕ) (n : ℕ) where
   pub walk_top : Walk H left x h us n left h
   walk_top = record { i = 1; seat = seat-top H h; gets = top; way = refl }
 
   -- no levels below: x comes to rest
-  pub walk-last : (m : ℕ) → Walk H left x h us n 0 m → Found H left x h us n (suc m)
+  pub walk-last : (m : ℕ) → Walk H left x h us n 0 m → Found H left x h us n (Some m)
   unfolding way_ok own_ok step_in step sink_by lifts lower_side top_in blank untagged
   walk-last m w = (w.way, record { k = 0; gets = w.gets; rests = refl })
 
@@ -79,15 +96,11 @@ module _ (H left : ℕ) (x : Element) (h : ℕ) (us : List ℕ) (n : ℕ) where
     pick_is lhs = refl
     pick_is rhs = refl
 
-    slot_is : (d : Side) → child H m lhs + side_number d ≡ child H m d
-    slot_is lhs = omega arith
-    slot_is rhs = omega arith
-
     -- what one step comes to
-    pub record Led (t : ℕ) : Type 0 where
-      pub torn : t ≡ 3 → Found H left x h us n 0
-      pub stays : t ≡ 2 → Found H left x h us n (suc m)
-      pub goes : (t ≡ 3 → ⊥) → (t ≡ 2 → ⊥) → Walk H left x h us n k (child H m lhs + t)
+    pub record Led (t : Option Goes) : Type 0 where
+      pub torn : t ≡ None → Found H left x h us n None
+      pub stays : t ≡ Some Nowhere → Found H left x h us n (Some m)
+      pub goes : (d : Side) → t ≡ Some (towards d) → Walk H left x h us n k (child H m d)
 
     stepped-is : (d : Side) → lower_side a b ≡ d → (l : Bool) → lifts x (pick d a b) ≡ l → step_in H (suc k) (sink x) m us ≡ sink_by l d x a b
     stepped-is d ed l el = step_is ∙ ap (λ (e : Side). sink_by (lifts x (pick e a b)) e x a b) ed ∙ ap (λ (t : Bool). sink_by t d x a b) el
@@ -98,35 +111,34 @@ module _ (H left : ℕ) (x : Element) (h : ℕ) (us : List ℕ) (n : ℕ) where
         v : Stepped
         v = step_in H (suc k) (sink x) m us
 
-    step_stays : in_order ≡ true → step_in H (suc k) (sink x) m us ≡ stepped x lhs none → Found H left x h us n (suc m)
+    step_stays : in_order ≡ true → step_in H (suc k) (sink x) m us ≡ stepped x lhs none → Found H left x h us n (Some m)
     step_stays e s = (
       way-is (stepped x lhs none) s ∙ ap₂ (λ (c d : Bool). c && d) e (way-none H (suc k) n (below w.i lhs) (child H m lhs) us),
       record { k = suc k; gets = w.gets; rests = s },
     )
 
-    step-goes : in_order ≡ true → (d : Side) → step_in H (suc k) (sink x) m us ≡ stepped (pick d a b) d (sink x) → Walk H left x h us n k (child H m lhs + side_number d)
+    step-goes : in_order ≡ true → (d : Side) → step_in H (suc k) (sink x) m us ≡ stepped (pick d a b) d (sink x) → Walk H left x h us n k (child H m d)
     step-goes e d s =
-        subst (Walk H left x h us n k) (sym (slot_is d))
-        (record {
+        record {
           i = below w.i d;
           seat = seat-child H h w.i m d w.seat;
           gets = on k m d w.gets (s ∙ ap (λ (z : Element). stepped z d (sink x)) (pick_is d));
           way = way-is (stepped (pick d a b) d (sink x)) s ∙ ap (λ (c : Bool). c && way_ok H (suc k) n (sink x) (below w.i d) (child H m d) us) e;
-        })
-
-    side-few : (d : Side) → (side_number d ≡ 3 → ⊥) × (side_number d ≡ 2 → ⊥)
-    side-few lhs = ((λ z. omega arith), (λ z. omega arith))
-    side-few rhs = ((λ z. omega arith), (λ z. omega arith))
+        }
 
     pub led : Led (sink_to (leb (child H m lhs) last) (leb (child H m rhs) last) x a b)
     unfolding sink_to sink_by
     led = go in_order refl (lower_side a b) refl (lifts x (pick (lower_side a b) a b)) refl
       where
-        go : (f : Bool) → in_order ≡ f → (d : Side) → lower_side a b ≡ d → (l : Bool) → lifts x (pick d a b) ≡ l → Led (cond f (cond l (side_number d) 2) 3)
-        go false ef d ed l el = record { torn = λ z. step-torn ef; stays = λ z. absurd (omega arith); goes = λ y z. absurd (y refl) }
-        go true ef d ed false el = record { torn = λ z. absurd (omega arith); stays = λ z. step_stays ef (stepped-is d ed false el); goes = λ y z. absurd (z refl) }
+        go : (f : Bool) → in_order ≡ f → (d : Side) → lower_side a b ≡ d → (l : Bool) → lifts x (pick d a b) ≡ l → Led (cond f (Some (cond l (towards d) Nowhere)) None)
+        go false ef d ed l el = record { torn = λ z. step-torn ef; stays = λ z. absurd (some-not Nowhere z); goes = λ e z. absurd (some-not (towards e) z) }
+        go true ef d ed false el = record { torn = λ z. absurd (some-not Nowhere (sym z)); stays = λ z. step_stays ef (stepped-is d ed false el); goes = λ e z. absurd (moves e (sym z)) }
         go true ef d ed true el =
-            record { torn = λ z. absurd ((side-few d).0 z); stays = λ z. absurd ((side-few d).1 z); goes = λ y z. step-goes ef d (stepped-is d ed true el) }
+            record {
+              torn = λ z. absurd (some-not (towards d) (sym z));
+              stays = λ z. absurd (moves d z);
+              goes = λ e z. subst (λ (e : Side). Walk H left x h us n k (child H m e)) (same_side d e z) (step-goes ef d (stepped-is d ed true el));
+            }
 
 under : (H m : ℕ) (d : Side) → 0 < H → m < child H m d
 under H m lhs l = omega arith
@@ -176,7 +188,7 @@ module _ (H left : ℕ) (x : Element) (h : ℕ) (ws : List ℕ) where
     climb-top m y us vs c l e = at_top c.k m c.gets l vs (e ∙ c.done)
 
 -- ---- one step of the walk, by what the code has read: k is how many levels are below slot m before it
-module _ (H left : ℕ) (x : Element) (h : ℕ) (ws us : List ℕ) (n last p : ℕ) (held : HeldTo H h n last) (reads : Reads H p ws us) (m t : ℕ)
+module _ (H left : ℕ) (x : Element) (h : ℕ) (ws us : List ℕ) (n last p : ℕ) (held : HeldTo H h n last) (reads : Reads H p ws us) (m : ℕ) (t : Option Goes)
     (goes : t ≡ sink_to (leb (m + m + H) last) (leb (m + m + H + 1) last) x (slot_but H p ws (m + m + H)) (slot_but H p ws (m + m + H + 1))) where
   led-so : (k : ℕ) (w : Walk H left x h us n (suc k) m) → Led H left x h us n last held k m w t
   led-so k w =
@@ -184,33 +196,50 @@ module _ (H left : ℕ) (x : Element) (h : ℕ) (ws us : List ℕ) (n last p : �
       (ap₂ (λ (a b : Element). sink_to (leb (m + m + H) last) (leb (m + m + H + 1) last) x a b) (reads (m + m + H) (omega arith)) (reads (m + m + H + 1) (omega arith)) ∙ sym goes)
       (led H left x h us n last held k m w)
 
-  pub walk-torn : (k : ℕ) → 0 < k → Walk H left x h us n k m → t ≡ 3 → Found H left x h us n 0
+  pub walk-torn : (k : ℕ) → 0 < k → Walk H left x h us n k m → t ≡ None → Found H left x h us n None
   walk-torn zero l w z = absurd (not-suc-le-zero l)
   walk-torn (suc k) l w z = (led-so k w).torn z
 
-  pub walk-stays : (k : ℕ) → 0 < k → Walk H left x h us n k m → t ≡ 2 → Found H left x h us n (suc m)
+  pub walk-stays : (k : ℕ) → 0 < k → Walk H left x h us n k m → t ≡ Some Nowhere → Found H left x h us n (Some m)
   walk-stays zero l w z = absurd (not-suc-le-zero l)
   walk-stays (suc k) l w z = (led-so k w).stays z
 
-  pub walk-goes : (k : ℕ) → 0 < k → Walk H left x h us n k m → (t ≡ 3 → ⊥) → (t ≡ 2 → ⊥) → Walk H left x h us n (k - 1) (m + m + H + t)
-  walk-goes zero l w y z = absurd (not-suc-le-zero l)
-  walk-goes (suc k) l w y z = let e : k ≡ suc k - 1 = omega arith in subst (λ (i : ℕ). Walk H left x h us n i (m + m + H + t)) e ((led-so k w).goes y z)
+  pub walk-goes : (k : ℕ) → 0 < k → Walk H left x h us n k m → (d : Side) → t ≡ Some (towards d) → Walk H left x h us n (k - 1) (child H m d)
+  walk-goes zero l w d z = absurd (not-suc-le-zero l)
+  walk-goes (suc k) l w d z = let e : k ≡ suc k - 1 = omega arith in subst (λ (i : ℕ). Walk H left x h us n i (child H m d)) e ((led-so k w).goes d z)
 
-pub to-few : (p q : Bool) (x a b : Element) → sink_to p q x a b ≤ 3
-unfolding sink_to
-to-few p q x a b = go (fine p a && fine q b) (lifts x (pick (lower_side a b) a b)) (lower_side a b)
-  where
-    go : (f l : Bool) (d : Side) → cond f (cond l (side_number d) 2) 3 ≤ 3
-    go true true lhs = omega arith
-    go true true rhs = omega arith
-    go true false d = omega arith
-    go false l d = omega arith
+pub lies-on : (H k m : ℕ) (d : Side) (len : ℕ) → 0 < k → Lies H (suc k) m len → Lies H (suc (k - 1)) (child H m d) len
+lies-on H zero m d len l z = absurd (not-suc-le-zero l)
+lies-on H (suc k) m lhs len l z = let e : k ≡ suc k - 1 = omega arith in subst (λ (i : ℕ). Lies H (suc i) (m + m + H) len) e z.1
+lies-on H (suc k) m rhs len l z = let e : k ≡ suc k - 1 = omega arith in subst (λ (i : ℕ). Lies H (suc i) (m + m + H + 1) len) e z.2
 
-pub lies-on : (H k m t len : ℕ) → 0 < k → t ≤ 1 → Lies H (suc k) m len → Lies H (suc (k - 1)) (m + m + H + t) len
-lies-on H zero m t len l f z = absurd (not-suc-le-zero l)
-lies-on H (suc k) m zero len l f z = let e : k ≡ suc k - 1 = omega arith in let c : m + m + H ≡ m + m + H + 0 = omega arith in subst (λ (i : ℕ). Lies H (suc (suc k - 1)) i len) c (subst (λ (i : ℕ). Lies H (suc i) (m + m + H) len) e z.1)
-lies-on H (suc k) m (suc zero) len l f z = let e : k ≡ suc k - 1 = omega arith in subst (λ (i : ℕ). Lies H (suc i) (m + m + H + 1) len) e z.2
-lies-on H (suc k) m (suc (suc t)) len l f z = absurd (omega (arith, f))
+-- ---- the walk of a way's end: it has come to slot `at`, with k levels below it
+pub record Edge (H left last p m : ℕ) (x : Element) (ws : List ℕ) (k at : ℕ) : Type 0 where
+  pub lies : Lies H (suc k) at (length ws)
+  pub edge : last ≤ at + at + H
+  pub walk : (l h n : ℕ) → HeldTo H h n last → (us : List ℕ) → Reads H p ws us → Walk H l x h us n left m → Walk H l x h us n k at
+
+module _ (H left last p m : ℕ) (x : Element) (ws : List ℕ) where
+  pub edge-from : Lies H (suc left) m (length ws) → last ≤ m + m + H → Edge H left last p m x ws (left - 0) m
+  edge-from l e = let z : left ≡ left - 0 = omega arith in subst (λ (k : ℕ). Edge H left last p m x ws k m) z (record { lies = l; edge = e; walk = λ l h n held us reads w. w })
+
+  pub edge-on : (i at : ℕ) → i < left → Edge H left last p m x ws (left - i) at → (t : Option Goes)
+      → t ≡ sink_to (leb (at + at + H) last) (leb (at + at + H + 1) last) x (slot_but H p ws (at + at + H)) (slot_but H p ws (at + at + H + 1))
+      → (d : Side) → t ≡ Some (towards d) → (v : ℕ) → v ≡ child H at d → Edge H left last p m x ws (left - (i + 1)) v
+  edge-on i at l e t goes d z v is =
+      let q : left - i - 1 ≡ left - (i + 1) = omega arith in
+      let some : 0 < left - i = omega arith in
+      subst (Edge H left last p m x ws (left - (i + 1))) (sym is)
+      (subst (λ (k : ℕ). Edge H left last p m x ws k (child H at d)) q
+      (record {
+        lies = lies-on H (left - i) at d (length ws) some e.lies;
+        edge = farther d;
+        walk = λ l h n held us reads w. walk-goes H l x h ws us n last p held reads at t goes (left - i) some (e.walk l h n held us reads w) d z;
+      }))
+    where
+      farther : (d : Side) → last ≤ child H at d + child H at d + H
+      farther lhs = omega (arith, e.edge)
+      farther rhs = omega (arith, e.edge)
 
 -- the hole is neither of two children that are held
 pub hole-off : (H last p c : ℕ) → (last < p) ⊎ (p < H) → H ≤ c → c < last → (c ≡ p → ⊥) × (c + 1 ≡ p → ⊥)
@@ -224,6 +253,14 @@ pub record Stands (H left last p h : ℕ) (x : Element) (ws : List ℕ) (k w : �
   pub lies : Lies H (suc k) m (length ws)
   pub walk : (n : ℕ) → HeldTo H h n last → (us : List ℕ) → Reads H p ws us → Walk H left x h us n k m
 
+-- the lower of two numbers
+pub lower_is : (a b : ℕ) → min a b ≡ cond (ltb b a) b a
+lower_is a b = go (ltb b a) refl
+  where
+    go : (t : Bool) → ltb b a ≡ t → min a b ≡ cond t b a
+    go true e = omega (arith, ltb-true b a e)
+    go false e = omega (arith, ltb-false b a e)
+
 module _ (H left last p h : ℕ) (x : Element) (ws : List ℕ) where
   pub stands-top : Lies H (suc left) h (length ws) → Stands H left last p h x ws left (H + h * 3)
   stands-top l = record { m = h; word = refl; lies = l; walk = λ n held us reads. walk_top H left x h us n }
@@ -232,34 +269,38 @@ module _ (H left last p h : ℕ) (x : Element) (ws : List ℕ) where
     pub slot_of : (w - H) / 3 ≡ s.m
     slot_of = omega (arith, s.word)
 
-    slot_next : suc s.m ≡ (w - H) / 3 + 1
-    slot_next = omega (arith, slot_of)
+    slot_some : Some s.m ≡ Some ((w - H) / 3)
+    slot_some = ap (λ (i : ℕ). Some i) (sym slot_of)
 
-    pub stands-last : k ≡ 0 → Sought H left last p h x ws ((w - H) / 3 + 1)
+    pub stands-last : k ≡ 0 → Sought H left last p h x ws (Some ((w - H) / 3))
     stands-last z n held us reads =
-        subst (Found H left x h us n) slot_next
+        subst (Found H left x h us n) slot_some
         (walk-last H left x h us n s.m (subst (λ (i : ℕ). Walk H left x h us n i s.m) z (s.walk n held us reads)))
 
-    pub stands-edge : (r : ℕ) → EdgeSought H k last p ((w - H) / 3) x ws r → Sought H left last p h x ws r
+    pub stands-edge : (r : Option ℕ) → EdgeSought H k last p ((w - H) / 3) x ws r → Sought H left last p h x ws r
     stands-edge r e n held us reads = e left h n held us reads (subst (Walk H left x h us n k) (sym slot_of) (s.walk n held us reads))
 
-    module _ (some : 0 < k) (t : ℕ)
+    module _ (some : 0 < k) (t : Option Goes)
         (goes : t ≡ sink_to (leb (s.m + s.m + H) last) (leb (s.m + s.m + H + 1) last) x (slot_but H p ws (s.m + s.m + H)) (slot_but H p ws (s.m + s.m + H + 1))) where
-      pub stands-torn : t ≡ 3 → Sought H left last p h x ws 0
+      pub stands-torn : t ≡ None → Sought H left last p h x ws None
       stands-torn z n held us reads = walk-torn H left x h ws us n last p held reads s.m t goes k some (s.walk n held us reads) z
 
-      pub stands-stays : t ≡ 2 → Sought H left last p h x ws ((w - H) / 3 + 1)
+      pub stands-stays : t ≡ Some Nowhere → Sought H left last p h x ws (Some ((w - H) / 3))
       stands-stays z n held us reads =
-          subst (Found H left x h us n) slot_next (walk-stays H left x h ws us n last p held reads s.m t goes k some (s.walk n held us reads) z)
+          subst (Found H left x h us n) slot_some (walk-stays H left x h ws us n last p held reads s.m t goes k some (s.walk n held us reads) z)
 
-      pub stands_on : t ≤ 1 → (v : ℕ) → v ≡ H + (s.m + s.m + H + t) * 3 → Stands H left last p h x ws (k - 1) v
-      stands_on l v e =
+      pub stands_on : (d : Side) → t ≡ Some (towards d) → (v : ℕ) → v ≡ H + (s.m + s.m + H + pick d 0 1) * 3 → Stands H left last p h x ws (k - 1) v
+      stands_on d z v e =
           record {
-            m = s.m + s.m + H + t;
-            word = e;
-            lies = lies-on H k s.m t (length ws) some l s.lies;
-            walk = λ n held us reads. walk-goes H left x h ws us n last p held reads s.m t goes k some (s.walk n held us reads) (λ z. omega (arith, z, l)) (λ z. omega (arith, z, l));
+            m = child H s.m d;
+            word = e ∙ ap (λ (i : ℕ). H + i * 3) (at_side s.m d);
+            lies = lies-on H k s.m d (length ws) some s.lies;
+            walk = λ n held us reads. walk-goes H left x h ws us n last p held reads s.m t goes k some (s.walk n held us reads) d z;
           }
+        where
+          at_side : (m : ℕ) (d : Side) → m + m + H + pick d 0 1 ≡ child H m d
+          at_side m lhs = omega arith
+          at_side m rhs = refl
 
   -- both children are held: i is the word at which the left one's slot begins, `end` the last one held
   module _ (k w : ℕ) (s : Stands H left last p h x ws k w) (some : 0 < k) (hole : (last < p) ⊎ (p < H)) (i end : ℕ) (is : i ≡ w + w + (H + H)) (ends : end ≡ H + last * 3) (both : i < end) where
@@ -272,14 +313,14 @@ module _ (H left last p h : ℕ) (x : Element) (ws : List ℕ) where
     off : (s.m + s.m + H ≡ p → ⊥) × (s.m + s.m + H + 1 ≡ p → ⊥)
     off = hole-off H last p (s.m + s.m + H) hole (omega arith) held
 
-    pub down-torn : (eqb (word ws (i + 1)) 0 || eqb (word ws (i + 4)) 0) ≡ true → Sought H left last p h x ws 0
-    down-torn e = stands-torn k w s some 3 (read-torn H (s.m + s.m + H) last p ws x held off i at e) refl
+    pub down-torn : (eqb (word ws (i + 1)) 0 || eqb (word ws (i + 4)) 0) ≡ true → Sought H left last p h x ws None
+    down-torn e = stands-torn k w s some None (read-torn H (s.m + s.m + H) last p ws x held off i at e) refl
 
     module _ (tags : (eqb (word ws (i + 1)) 0 || eqb (word ws (i + 4)) 0) ≡ false) (low : ℕ) (lows : low ≡ cond (ltb (word ws (i + 3)) (word ws i)) (word ws (i + 3)) (word ws i)) where
-      pub down-stays : x.rank.0 ≤ low → Sought H left last p h x ws ((w - H) / 3 + 1)
-      down-stays l = stands-stays k w s some 2 (read-stay H (s.m + s.m + H) last p ws x held off i at tags low lows l) refl
+      pub down-stays : x.rank.0 ≤ low → Sought H left last p h x ws (Some ((w - H) / 3))
+      down-stays l = stands-stays k w s some (Some Nowhere) (read-stay H (s.m + s.m + H) last p ws x held off i at tags low lows l) refl
 
       pub down-on : low < x.rank.0 → (v : ℕ) → v ≡ cond (ltb (word ws (i + 3)) (word ws i)) (i + 3) i → Stands H left last p h x ws (k - 1) v
       down-on l v e =
           let z : Leads H (s.m + s.m + H) last p ws x held off i at tags low lows v = read_goes H (s.m + s.m + H) last p ws x held off i at tags low lows l v e in
-          stands_on k w s some z.side z.goes z.one v z.word
+          stands_on k w s some (Some (towards z.side)) z.goes z.side refl v z.word

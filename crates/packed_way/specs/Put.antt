@@ -1,5 +1,5 @@
 -- A put's way by itself, as the code walks it: read from its end up, written from the first exchange down.
-use Rattle.std.specs.Prelude.{◌&&◌, ◌*◌, ◌+◌, ◌<◌, ◌≡◌, ◌≤◌}
+use Rattle.std.specs.Prelude.{◌&&◌, ◌*◌, ◌+◌, ◌<◌, ◌≡◌, ◌≤◌, None, Option, Some}
 use Rattle.laws.specs.Prelude.{Bool, Element, List, false, keep, pass, suc, true, zero, ℕ}
 use Rattle.packed_model.specs.Node.{rest_of, size, turn_of}
 use Rattle.packed_model.specs.Words.{child, slot_at, slot_in, tagged, write_slot, zero_slot}
@@ -28,13 +28,13 @@ module _ (H d r m : ℕ) where
     pub comes : Comes k rest at
     pub same : put_run H d r m x ws ≡ put_run H k rest at x ws
 
-  -- what is found: nothing where the way is damaged, else one more than the levels to go from such a slot
-  abbrev pub PutFound : Element → List ℕ → ℕ → Type 0
-  PutFound x ws zero = put_ok H d r m ws ≡ false
-  PutFound x ws (suc k) = (put_ok H d r m ws ≡ true) × Starts x ws k
+  -- what is found: nothing where the way is damaged, else the levels to go from such a slot
+  abbrev pub PutFound : Element → List ℕ → Option ℕ → Type 0
+  PutFound x ws None = put_ok H d r m ws ≡ false
+  PutFound x ws (Some k) = (put_ok H d r m ws ≡ true) × Starts x ws k
 
 -- what the walk up from slot `end` comes to, from whichever heap's top the way begins
-abbrev pub PutSought : ℕ → ℕ → Element → List ℕ → ℕ → Type 0
+abbrev pub PutSought : ℕ → ℕ → Element → List ℕ → Option ℕ → Type 0
 PutSought H end x ws f = (d r m : ℕ) → m < H → end ≡ slot_at H m d r → PutFound H d r m x ws f
 
 -- a way with so many levels to go to slot `end`: that is in a slice of this many words, and no deeper than the largest heap

@@ -1,8 +1,10 @@
 -- A sink's way, as the code walks it: down to where x comes to rest, and back up with what is lifted.
-use Rattle.std.specs.Prelude.{◌&&◌, ◌*◌, ◌+◌, ◌<◌, ◌≡◌, ◌≤◌, ◌⊎◌}
-use Rattle.laws.specs.Prelude.{Bool, Element, List, blank, cond, eqb, false, is_blank, length, not, suc, true, untagged, zero, ℕ}
+use Rattle.std.specs.Prelude.{◌&&◌, ◌*◌, ◌+◌, ◌<◌, ◌≡◌, ◌≤◌, ◌⊎◌, None, Option, Some}
+use Rattle.laws.specs.Prelude.{Bool, Element, List, blank, cond, eqb, false, is_blank, length, not, suc, true, untagged, ℕ}
 use Rattle.packed_model.specs.Node.{lhs, lifts, lower_side, none, pick, rhs, Side, sink, size, stepped}
 use Rattle.packed_model.specs.Words.{child, Lies, run_words, slot_in, step_in, way_ok}
+use Rattle.packed_way.specs.declared.Goes.{Goes}
+use Rattle.packed_way.specs.declared.Goes.TheVariants.{Left, Nowhere, Right}
 
 -- ---- one step
 -- a child that is held has a tag, one that is not is three zeros
@@ -10,13 +12,13 @@ unfoldable pub fine : Bool → Element → Bool
 fine true e = not (untagged e)
 fine false e = is_blank e
 
-abbrev pub side_number : Side → ℕ
-side_number lhs = 0
-side_number rhs = 1
+abbrev pub towards : Side → Goes
+towards lhs = Left
+towards rhs = Right
 
--- where x goes from a position with the children a and b: 0 to the left, 1 to the right, 2 nowhere; 3 where a child is damaged. p, q: a, b are held
-unfoldable pub sink_to : Bool → Bool → Element → Element → Element → ℕ
-sink_to p q x a b = cond (fine p a && fine q b) (cond (lifts x (pick (lower_side a b) a b)) (side_number (lower_side a b)) 2) 3
+-- where x goes from a position with the children a and b; nothing where a child is damaged. p, q: a, b are held
+unfoldable pub sink_to : Bool → Bool → Element → Element → Element → Option Goes
+sink_to p q x a b = cond (fine p a && fine q b) (Some (cond (lifts x (pick (lower_side a b) a b)) (towards (lower_side a b)) Nowhere)) None
 
 module _ (H : ℕ) where
   -- the slot m as it is read: slot p, from which the last entry is taken away, counts as empty
@@ -55,10 +57,10 @@ module _ (H left : ℕ) (x : Element) (h : ℕ) (ws : List ℕ) where
     pub gets : Gets k m
     pub way : way_ok H (suc left) n (sink x) 1 h ws ≡ way_ok H (suc k) n (sink x) i m ws
 
-  -- what is found where n are held: nothing where the way is damaged, else one more than the slot where x comes to rest
-  abbrev pub Found : ℕ → ℕ → Type 0
-  Found n zero = way_ok H (suc left) n (sink x) 1 h ws ≡ false
-  Found n (suc m) = (way_ok H (suc left) n (sink x) 1 h ws ≡ true) × Ends m
+  -- what is found where n are held: nothing where the way is damaged, else the slot where x comes to rest
+  abbrev pub Found : ℕ → Option ℕ → Type 0
+  Found n None = way_ok H (suc left) n (sink x) 1 h ws ≡ false
+  Found n (Some m) = (way_ok H (suc left) n (sink x) 1 h ws ≡ true) × Ends m
 
 -- `last` is the last slot of heap h that is held where n are
 abbrev pub HeldTo : ℕ → ℕ → ℕ → ℕ → Type 0
@@ -79,11 +81,11 @@ pub record EdgeReady (H k last m : ℕ) (ws : List ℕ) : Type 0 where
   pub edge : last ≤ m + m + H
 
 -- what the walk down comes to, for whatever count the last slot stands for and whatever words are read so
-abbrev pub Sought : ℕ → ℕ → ℕ → ℕ → ℕ → Element → List ℕ → ℕ → Type 0
+abbrev pub Sought : ℕ → ℕ → ℕ → ℕ → ℕ → Element → List ℕ → Option ℕ → Type 0
 Sought H left last p h x ws r = (n : ℕ) → HeldTo H h n last → (us : List ℕ) → Reads H p ws us → Found H left x h us n r
 
 -- .. and the walk of its end, for whatever walk has come to slot m
-abbrev pub EdgeSought : ℕ → ℕ → ℕ → ℕ → ℕ → Element → List ℕ → ℕ → Type 0
+abbrev pub EdgeSought : ℕ → ℕ → ℕ → ℕ → ℕ → Element → List ℕ → Option ℕ → Type 0
 EdgeSought H k last p m x ws r =
     (left h n : ℕ) → HeldTo H h n last → (us : List ℕ) → Reads H p ws us → Walk H left x h us n k m → Found H left x h us n r
 

@@ -39,22 +39,15 @@ pub fn power(d: usize) -> usize
 
 // ---- put
 
-// The level k where x is lower than what stands there, else the one found before.
-fn higher(x: u32, e: u32, k: usize, best: usize) -> usize
-    ensures { result ≡ cond (ltb x e) k best }
-{
-    if x < e { k } else { best }
-}
-
-// A put's way is read from its end up, since a slot tells the one above it: every slot above the end has an element, and the end is empty. One more than how many
-// levels above the end x is first exchanged, none if nowhere; 0 where the way is damaged. Above that slot the way stands as it is.
-pub fn put_from(s: &[u32], heaps: usize, end: usize, x: Element) -> usize
+// A put's way is read from its end up, since a slot tells the one above it: every slot above the end has an element, and the end is empty. How many levels above the
+// end x is first exchanged, 0 if nowhere; nothing where the way is damaged. Above that slot the way stands as it is.
+pub fn put_from(s: &[u32], heaps: usize, end: usize, x: Element) -> Option<usize>
     requires { (0 < heaps) × (heaps + end * 3 + 3 ≤ length s.now) }
     ensures { PutSought heaps end x s.now result }
 {
     let e = slot(s, heaps, end);
     if !is_blank(e) {
-        return 0;
+        return None;
     }
     let mut at = end;
     let mut k = 0;
@@ -64,11 +57,13 @@ pub fn put_from(s: &[u32], heaps: usize, end: usize, x: Element) -> usize
         k += 1;
         let e = slot(s, heaps, at);
         if is_untagged(e) {
-            return 0;
+            return None;
         }
-        best = higher(x.rank.0, e.rank.0, k, best);
+        if x.rank.0 < e.rank.0 {
+            best = k;
+        }
     }
-    best + 1
+    Some(best)
 }
 
 // Of x and the element that it meets in slot m the lower stays there; of equal ranks the one met. The other goes on.
@@ -77,11 +72,11 @@ fn meet(s: &mut [u32], heaps: usize, m: usize, x: Element) -> Element
     ensures { (result ≡ pass x (slot_in heaps s.old m)) × (s.new ≡ write_slot heaps s.old m (keep x (slot_in heaps s.old m))) }
 {
     let e = slot(s, heaps, m);
-    if x.rank.0 < e.rank.0 {
-        set_slot(s, heaps, m, x);
-        return e;
+    if e.rank.0 <= x.rank.0 {
+        return x;
     }
-    x
+    set_slot(s, heaps, m, x);
+    e
 }
 
 // x is put towards the slot `end`, from so many levels above it.
@@ -89,12 +84,10 @@ pub fn put_down(s: &mut [u32], heaps: usize, end: usize, levels: usize, x: Eleme
     requires { PutReady heaps end levels (length s.old) }
     ensures { PutDone heaps end levels x s.old s.new }
 {
-    let mut k = levels;
     let mut y = x;
-    while 0 < k {
+    for k in (1..=levels).rev() {
         let m = ((end + heaps) >> k) - heaps;
         y = meet(s, heaps, m, y);
-        k -= 1;
     }
     set_slot(s, heaps, end, y);
 }
@@ -112,29 +105,37 @@ fn slot_but(s: &[u32], heaps: usize, m: usize, p: usize) -> Element
     slot(s, heaps, m)
 }
 
-// Where x goes from a position whose left child is slot c: 0 to the left, 1 to the right, 2 nowhere; 3 where a child is damaged. Here the right child is not held.
-fn edge_to(s: &[u32], heaps: usize, c: usize, last: usize, p: usize, x: Element) -> usize
+// Where an element that is sunk goes from a position: to its left child, to its right one, or nowhere.
+#[derive(Clone, Copy)]
+enum Goes {
+    Left,
+    Right,
+    Nowhere,
+}
+
+// Where x goes from a position whose left child is slot c; nothing where a child is damaged. Here the right child is not held.
+fn edge_to(s: &[u32], heaps: usize, c: usize, last: usize, p: usize, x: Element) -> Option<Goes>
     requires { (heaps + c * 3 + 6 ≤ length s.now) × (last ≤ c) }
     ensures { result ≡ sink_to (leb c last) (leb (c + 1) last) x (slot_but heaps p s.now c) (slot_but heaps p s.now (c + 1)) }
 {
     let a = slot_but(s, heaps, c, p);
     let b = slot_but(s, heaps, c + 1, p);
     if !is_blank(b) {
-        return 3;
+        return None;
     }
     if last < c {
         if !is_blank(a) {
-            return 3;
+            return None;
         }
-        return 2;
+        return Some(Goes::Nowhere);
     }
     if is_untagged(a) {
-        return 3;
+        return None;
     }
     if a.rank.0 < x.rank.0 {
-        return 0;
+        return Some(Goes::Left);
     }
-    2
+    Some(Goes::Nowhere)
 }
 
 // The end of a sink's way, from slot m on with so many levels below it, where the right child is not held.
@@ -146,34 +147,24 @@ fn rest_edge(
     p: usize,
     m: usize,
     x: Element,
-) -> usize
+) -> Option<usize>
     requires { EdgeReady heaps left last m s.now }
     ensures { EdgeSought heaps left last p m x s.now result }
 {
-    let mut k = left;
     let mut at = m;
-    while 0 < k {
+    for _ in 0..left {
         let c = at + at + heaps;
-        let t = edge_to(s, heaps, c, last, p, x);
-        if t == 3 {
-            return 0;
-        }
-        if t == 2 {
-            return at + 1;
-        }
-        at = c + t;
-        k -= 1;
+        at = match edge_to(s, heaps, c, last, p, x)? {
+            Goes::Left => c,
+            Goes::Right => c + 1,
+            Goes::Nowhere => return Some(at),
+        };
     }
-    at + 1
+    Some(at)
 }
 
-fn lower(a: u32, b: u32) -> u32
-    ensures { result ≡ cond (ltb b a) b a }
-{
-    if b < a { b } else { a }
-}
-
-// The word at which the lower child's slot begins, where the left one's begins at word i.
+// The word at which the lower child's slot begins, where the left one's begins at word i. A function of its own: written in place the compiler makes a branch of it, and
+// as a sum it took a pair of push and pop 4 in 100 longer (tried).
 fn lower_at(a: u32, b: u32, i: usize) -> usize
     requires { i + 3 ≤ 18446744073709551615 }
     ensures { result ≡ cond (ltb b a) (i + 3) i }
@@ -181,8 +172,8 @@ fn lower_at(a: u32, b: u32, i: usize) -> usize
     if b < a { i + 3 } else { i }
 }
 
-// One more than the slot where x, sunk from the top of a heap with so many levels below it, comes to rest; 0 where the way is damaged. While both children are held
-// nothing but their ranks and tags is read, the way is known by the word w at which a slot begins, and which child is the lower is no branch.
+// The slot where x, sunk from the top of a heap with so many levels below it, comes to rest; nothing where the way is damaged. While both children are held nothing but
+// their ranks and tags is read, the way is known by the word w at which a slot begins, and which child is the lower is no branch.
 pub fn rest_slot(
     s: &[u32],
     heaps: usize,
@@ -191,14 +182,13 @@ pub fn rest_slot(
     p: usize,
     heap: usize,
     x: Element,
-) -> usize
+) -> Option<usize>
     requires { SinkReady heaps left last p heap s.now }
     ensures { Sought heaps left last p heap x s.now result }
 {
     let end = heaps + last * 3;
-    let mut k = left;
     let mut w = heaps + heap * 3;
-    while 0 < k {
+    for k in (1..=left).rev() {
         let i = w + w + (heaps + heaps);
         if end <= i {
             return rest_edge(s, heaps, k, last, p, (w - heaps) / 3, x);
@@ -206,15 +196,14 @@ pub fn rest_slot(
         let a = s[i];
         let b = s[i + 3];
         if (s[i + 1] == 0) | (s[i + 4] == 0) {
-            return 0;
+            return None;
         }
-        if x.rank.0 <= lower(a, b) {
-            return (w - heaps) / 3 + 1;
+        if x.rank.0 <= a.min(b) {
+            return Some((w - heaps) / 3);
         }
         w = lower_at(a, b, i);
-        k -= 1;
     }
-    (w - heaps) / 3 + 1
+    Some((w - heaps) / 3)
 }
 
 // x comes to rest in slot end, and what stood on its way is lifted, each into the slot above.

@@ -17,6 +17,8 @@ use std::fmt;
 use std::io::{Read, Write};
 use trace_model::{Piece, Playing};
 
+// All buffers have a fixed length, so that the memory is the same however long the input is.
+
 // A store for every shape that the program takes.
 const STORE: usize = 16376;
 

@@ -1,10 +1,10 @@
 -- What clear writes, word by word, and what its functions ask for.
-use Rattle.laws.specs.Prelude.{List, ◌%◌, ◌*◌, ◌+◌, ◌-◌, ◌/◌, ◌<◌, ◌∙◌, ◌≡◌, ◌≤◌, ap, ap₂, arith, eq-eqb, le-ltb, length, lt-ltb, ne_eqb, refl, set, subst, sym, true, ℕ}
+use Rattle.laws.specs.Prelude.{List, ◌%◌, ◌*◌, ◌+◌, ◌-◌, ◌/◌, ◌∙◌, ◌≡◌, ◌≤◌, ap, ap₂, arith, eq-eqb, le-ltb, length, lt-ltb, ne_eqb, refl, set, subst, sym, true, ℕ}
 use Rattle.bucket_model.specs.declared.Lay.{Lay}
 use Rattle.bucket_model.specs.Calls as bucket
 use Rattle.bucket_model.specs.Prelude.{fill}
 use Rattle.bucket_model.proofs.Laws.{fill_step}
-use Rattle.bucket_node.proofs.Blanks.{fill-same, fill-there}
+use Rattle.bucket_node.proofs.Blanks.{fill-same}
 use Rattle.ports_model.specs.declared.Shape.{Shape}
 use Rattle.ports_model.specs.Prelude.{Shaped, blank_port, ceiling_of, floor_of, limits_ok, seat}
 use Rattle.ports_model.proofs.Laws.{laid, limits-mean}
@@ -16,8 +16,8 @@ pub blank-lists : (k : Lay) (lim w v : List ℕ) → v ≡ fill (bucket.blank_wo
 blank-lists k lim w v e = e ∙ fill-same (bucket.blank_word k) (blank_at k lim) (k.free + 1) w (λ j h. rw (le-ltb k.free j (omega arith)) refl)
 
 -- .. where the ports' words begin
-pub fill-first : (k : Lay) (lim w v : List ℕ) → v ≡ fill (bucket.blank_word k) (k.free + 1) w → v ≡ fill (blank_at k lim) (k.free + 3 * 0 + 1) v
-fill-first k lim w v e = fill-there (blank_at k lim) (k.free + 1) w v (blank-lists k lim w v e) ∙ ap (λ (i : ℕ). fill (blank_at k lim) i v) (omega arith)
+pub fill-first : (k : Lay) (lim w v : List ℕ) → v ≡ fill (bucket.blank_word k) (k.free + 1) w → v ≡ fill (blank_at k lim) (k.free + 3 * 0 + 1) w
+fill-first k lim w v e = blank-lists k lim w v e ∙ ap (λ (i : ℕ). fill (blank_at k lim) i w) (omega arith)
 
 module _ (k : Lay) (lim : List ℕ) (p : ℕ) where
   -- behind it word i of a port

@@ -1,8 +1,8 @@
 -- From what a call has tested to what its next step asks for, and to what the rules answer.
 use Rattle.laws.specs.Prelude.{Bool, Bool·beq, List, ◌&&◌, ◌*◌, ◌+◌, ◌-◌, ◌<◌, ◌∙◌, ◌≡◌, ◌≤◌, and_left, and_right, arith, eqb, le-leb, length, ltb, ltb-true, max, ne_eqb, refl, subst, sym, true, ℕ, ℕ_discrete}
 use Rattle.bucket_model.specs.declared.Lay.{Lay}
-use Rattle.bucket_model.specs.declared.Lowest.{Lowest}
-use Rattle.bucket_model.specs.declared.Room.{Room}
+use Rattle.bucket_model.specs.Calls.{Lowest}
+use Rattle.bucket_model.specs.Calls.{Room}
 use Rattle.bucket_model.specs.Prelude.{Laid, room_with, taken_bits, taken_words, word}
 use Rattle.bucket_model.proofs.Laws.{free-after, held_after, taken-foreign}
 use Rattle.bucket_step.specs.Tested.{Stands, Roomy, Freeing, FoundRoom, room_freed}
@@ -11,7 +11,6 @@ use Rattle.bucket_step.specs.Stores.{Joining}
 use Rattle.bucket_step.proofs.Steps as steps
 use Rattle.ports_model.specs.declared.Shape.{Shape}
 use Rattle.ports_model.specs.Prelude.{Shaped, Whole, ceiling_at, claimed_in, floor_at, free_at, has_room, held_at, is_shaped, is_whole, limits_kept, room_after, room_ok, seat, used_in, whole_ok}
-use Rattle.ports_model.specs.Causes as ports
 use Rattle.ports_model.proofs.Laws.{foreign-ceiling, foreign-floor, foreign-held, free-some, kept-means, laid, room-means, room-used, shape-means, shaped-at, to_le, to_part, to-upd, whole-means}
 use Rattle.ports_step.specs.declared.Totals.{Totals}
 use Rattle.ports_step.specs.Sums.{Summed, Numbers, whole_by, room_by}

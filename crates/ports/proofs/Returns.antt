@@ -1,8 +1,8 @@
 -- Each answer of a call from what it has tested, by the seat and the sums that it works with: it is the rules'.
-use Rattle.laws.specs.Prelude.{BadPort, BadRank, BadShape, Bool, Count, Damaged, Done, Element, Empty, Full, Held, List, NoTag, Out, Refusal, Unknown, ◌&&◌, ◌*◌, ◌+◌, ◌<◌, ◌∙◌, ◌≡◌, and_left, and_right, ap, arith, cond, eqb, false, false≢true, ltb, ltb-true, means-eqb, means-not, not, not-true, refl, subst, sym, true, untagged, ℕ}
+use Rattle.laws.specs.Prelude.{BadPort, BadRank, BadShape, Bool, Damaged, Element, Empty, Full, List, NoTag, Refusal, ◌&&◌, ◌*◌, ◌+◌, ◌<◌, ◌∙◌, ◌≡◌, and_left, and_right, ap, arith, cond, eqb, false, false≢true, ltb, ltb-true, means-eqb, means-not, not, not-true, refl, subst, sym, true, untagged, ℕ, Result, Ok, Err, None, Some}
 use Rattle.bucket_model.specs.declared.Lay.{Lay}
-use Rattle.bucket_model.specs.declared.Lowest.{Lowest}
-use Rattle.bucket_model.specs.declared.Room.{Room}
+use Rattle.bucket_model.specs.Calls.{Lowest}
+use Rattle.bucket_model.specs.Calls.{Room}
 use Rattle.bucket_model.specs.Prelude.{depth_ok, fill, given, joined_bits, joined_words, lowest_of, outcome, refused, room_with, taken_bits, taken_words, word}
 use Rattle.bucket_model.proofs.Laws.{either}
 use Rattle.bucket_step.specs.Tested.{Freeing, FoundRoom, room_freed}
@@ -23,7 +23,7 @@ module _ (s : Shape) (lim b w : List ℕ) where
   pub clear-unfair : is_shaped s b w ≡ true → limits_ok s lim ≡ false → refused BadShape b w ≡ cleared s lim b w
   clear-unfair h l = told.clear-bad s lim b w (λ i. h i && l i)
 
-  pub clear-done : is_shaped s b w ≡ true → limits_ok s lim ≡ true → (k : Lay) → k ≡ seat s 0 → (tall : ℕ) → tall ≡ bit_words s → (b' w' : List ℕ) → b' ≡ fill (λ j. 0) tall b → w' ≡ fill (blank_at k lim) (k.free + (1 + 3 * s.ports)) w → outcome Done b' w' ≡ cleared s lim b w
+  pub clear-done : is_shaped s b w ≡ true → limits_ok s lim ≡ true → (k : Lay) → k ≡ seat s 0 → (tall : ℕ) → tall ≡ bit_words s → (b' w' : List ℕ) → b' ≡ fill (λ j. 0) tall b → w' ≡ fill (blank_at k lim) (k.free + (1 + 3 * s.ports)) w → outcome (Ok None) b' w' ≡ cleared s lim b w
   unfolding blank_word
   clear-done h l k e tall t b' w' p q =
       told.clear-done s lim b w b' w' (λ i. h i && l i) (p ∙ (λ j. fill (λ x. 0) (t j) b)) (q ∙ (λ j. fill (blank_at (e j) lim) ((e j).free + (1 + 3 * s.ports)) w))
@@ -54,14 +54,14 @@ module _ (s : Shape) (p : ℕ) (b w : List ℕ) where
     unfolding replaced
     replace-unknown x = either b w (is_shaped s b w) (ltb p s.ports) y BadPort BadShape _ n q
 
-    pub held-unknown : Unknown y ≡ held_count s p b w
+    pub held-unknown : Err y ≡ held_count s p b w
     unfolding held_count
     held-unknown = go (is_shaped s b w) (ltb p s.ports) _ n q
       where
-        go : (first second : Bool) (o : Count) → (first && second) ≡ false → y ≡ cond first BadPort BadShape → Unknown y ≡ cond first (cond second o (Unknown BadPort)) (Unknown BadShape)
+        go : (first second : Bool) (o : Result ℕ Refusal) → (first && second) ≡ false → y ≡ cond first BadPort BadShape → Err y ≡ cond first (cond second o (Err BadPort)) (Err BadShape)
         go true true o e f = absurd (false≢true (sym e))
-        go true false o e f = ap (λ (r : Refusal). Unknown r) f
-        go false second o e f = ap (λ (r : Refusal). Unknown r) f
+        go true false o e f = ap (λ (r : Refusal). Err r) f
+        go false second o e f = ap (λ (r : Refusal). Err r) f
 
 -- ---- a known port
 
@@ -108,10 +108,10 @@ module _ (s : Shape) (p : ℕ) (b w : List ℕ) (k : Lay) (e : k ≡ seat s p) (
 
     -- ---- held
 
-    pub held-torn : whole_by k t b w ≡ false → Unknown Damaged ≡ held_count s p b w
+    pub held-torn : whole_by k t b w ≡ false → Err Damaged ≡ held_count s p b w
     held-torn n = told.held-torn s p b w (shape-ok s p b w h) (port< s p b w h) (sym W ∙ n)
 
-    pub held-told : (m : ℕ) → whole_by k t b w ≡ true → m ≡ word w k.held → Held m ≡ held_count s p b w
+    pub held-told : (m : ℕ) → whole_by k t b w ≡ true → m ≡ word w k.held → Ok m ≡ held_count s p b w
     held-told m n q = told.held-told s p b w (shape-ok s p b w h) (port< s p b w h) m (sym W ∙ n) (q ∙ held-is)
 
     -- ---- nothing can be given
@@ -146,7 +146,7 @@ module _ (s : Shape) (p : ℕ) (b w : List ℕ) (k : Lay) (e : k ≡ seat s p) (
       pub pop-unfit : (lowest_of k b w).good ≡ false → refused Damaged b w ≡ popped s p b w
       pop-unfit n = told.pop-unfit s p b w (shape-ok s p b w h) (port< s p b w h) whole some (lowest_of (seat s p) b w) refl (subst (λ (k : Lay). (lowest_of k b w).good ≡ false) e n)
 
-      pub pop-out : (low : Lowest) → low ≡ lowest_of k b w → low.good ≡ true → (y : Element) (b' w' : List ℕ) → y ≡ given k w low → b' ≡ taken_bits k b low → w' ≡ taken_words k w low → outcome (Out y) b' w' ≡ popped s p b w
+      pub pop-out : (low : Lowest) → low ≡ lowest_of k b w → low.good ≡ true → (y : Element) (b' w' : List ℕ) → y ≡ given k w low → b' ≡ taken_bits k b low → w' ≡ taken_words k w low → outcome (Ok (Some y)) b' w' ≡ popped s p b w
       pop-out low l g y b' w' u v x =
           told.pop-out s p b w (shape-ok s p b w h) (port< s p b w h) whole some low (l ∙ (λ i. lowest_of (e i) b w)) y b' w' g (u ∙ (λ i. given (e i) w low)) (v ∙ (λ i. taken_bits (e i) b low)) (x ∙ (λ i. taken_words (e i) w low))
 
@@ -169,7 +169,7 @@ module _ (s : Shape) (p : ℕ) (b w : List ℕ) (k : Lay) (e : k ≡ seat s p) (
           pub replace-shut : good? ≡ false → refused Damaged b w ≡ replaced s p b w x
           replace-shut n = told.replace-shut s p b w (shape-ok s p b w h) (port< s p b w h) x (rank< x c) (tagged x c) whole some low (l ∙ (λ i. lowest_of (e i) b w)) g room refl (sym after.good ∙ n)
 
-          pub replace-out : good? ≡ true → (y : Element) (b1 b' w' : List ℕ) → y ≡ given k w low → b1 ≡ taken_bits k b low → b' ≡ joined_bits k b1 x to → w' ≡ joined_words k (taken_words k w low) x to → outcome (Out y) b' w' ≡ replaced s p b w x
+          pub replace-out : good? ≡ true → (y : Element) (b1 b' w' : List ℕ) → y ≡ given k w low → b1 ≡ taken_bits k b low → b' ≡ joined_bits k b1 x to → w' ≡ joined_words k (taken_words k w low) x to → outcome (Ok (Some y)) b' w' ≡ replaced s p b w x
           replace-out m y b1 b' w' u p1 v o =
               told.replace-out s p b w (shape-ok s p b w h) (port< s p b w h) x (rank< x c) (tagged x c) whole some low (l ∙ (λ i. lowest_of (e i) b w)) g to (after.is m) y b1 (taken_words (seat s p) w low) b' w'
               (ap (λ (r : Room). r.good) (after.is m) ∙ sym after.good ∙ m) (u ∙ (λ i. given (e i) w low)) (p1 ∙ (λ i. taken_bits (e i) b low)) refl (v ∙ (λ i. joined_bits (e i) b1 x to)) (o ∙ (λ i. joined_words (e i) (taken_words (e i) w low) x to))
@@ -190,6 +190,6 @@ module _ (s : Shape) (p : ℕ) (b w : List ℕ) (k : Lay) (e : k ≡ seat s p) (
         pub push-unfit : (room_with k t.used b w x.rank.0).good ≡ false → refused Damaged b w ≡ pushed s p b w x
         push-unfit n = told.push-unfit s p b w (shape-ok s p b w h) (port< s p b w h) x (rank< x c) (tagged x c) (push-whole s p b w k e t z h r) (push-room s p b w k e t z h r) (room_with k t.used b w x.rank.0) room-is n
 
-        pub push-done : (to : Room) → to ≡ room_with k t.used b w x.rank.0 → to.good ≡ true → (b' w' : List ℕ) → b' ≡ joined_bits k b x to → w' ≡ joined_words k w x to → outcome Done b' w' ≡ pushed s p b w x
+        pub push-done : (to : Room) → to ≡ room_with k t.used b w x.rank.0 → to.good ≡ true → (b' w' : List ℕ) → b' ≡ joined_bits k b x to → w' ≡ joined_words k w x to → outcome (Ok None) b' w' ≡ pushed s p b w x
         push-done to l g b' w' u v =
             told.push-done s p b w (shape-ok s p b w h) (port< s p b w h) x (rank< x c) (tagged x c) (push-whole s p b w k e t z h r) (push-room s p b w k e t z h r) to (l ∙ room-is) b' w' g (u ∙ (λ i. joined_bits (e i) b x to)) (v ∙ (λ i. joined_words (e i) w x to))

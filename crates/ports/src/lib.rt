@@ -26,7 +26,7 @@ use ports_step::{
     CEILING, FLOOR, HELD, PORT, add_up, bit_words, ceiling_of, floor_of, has_room, has_some,
     is_known, is_shaped, is_whole, limit_or_damage, limits_fit, seat_of, shape_or_port,
 };
-use strip::{Answer, Count, Element, Refusal};
+use strip::{Answer, Element, Refusal};
 
 // ---- clear
 
@@ -37,13 +37,11 @@ fn wipe_words(words: &mut [u32], k: Lay, limits: &[u32], ports: usize)
     ensures { words.new ≡ fill (blank_at k limits.now) (k.free + (1 + 3 * ports)) words.old }
 {
     wipe_lists(words, k);
-    let mut p = 0;
-    while p < ports {
+    for p in 0..ports {
         let port = k.free + PORT * p;
         words[port + HELD] = 0;
         words[port + FLOOR] = floor_of(limits, p);
         words[port + CEILING] = ceiling_of(limits, p);
-        p += 1;
     }
 }
 
@@ -52,72 +50,56 @@ pub fn clear(bits: &mut [u64], words: &mut [u32], s: Shape, limits: &[u32]) -> A
     ensures { outcome result bits.new words.new ≡ cleared s limits.now bits.old words.old }
 {
     if !is_shaped(bits, words, s) {
-        return Answer::Refused(Refusal::BadShape);
+        return Err(Refusal::BadShape);
     }
     if !limits_fit(s, limits) {
-        return Answer::Refused(Refusal::BadShape);
+        return Err(Refusal::BadShape);
     }
     let first = seat_of(s, 0);
     wipe(bits, bit_words(s));
     wipe_words(words, first, limits, s.ports as usize);
-    Answer::Done
+    Ok(None)
 }
 
 // ---- at a port
 
 // How many it holds.
-pub fn held(bits: &[u64], words: &[u32], s: Shape, port: u32) -> Count
+pub fn held(bits: &[u64], words: &[u32], s: Shape, port: u32) -> Result<u32, Refusal>
     ensures { result ≡ held_count s port bits.now words.now }
 {
     if !is_known(bits, words, s, port) {
-        return Count::Unknown(shape_or_port(bits, words, s));
+        return Err(shape_or_port(bits, words, s));
     }
     let k = seat_of(s, port);
     let t = add_up(words, k.free, s.ports as usize);
     if !is_whole(bits, words, k, t) {
-        return Count::Unknown(Refusal::Damaged);
+        return Err(Refusal::Damaged);
     }
-    Count::Held(held_count(words, k))
+    Ok(held_count(words, k))
 }
 
 // The first element of its lowest rank.
 pub fn pop(bits: &mut [u64], words: &mut [u32], s: Shape, port: u32) -> Answer
     ensures { outcome result bits.new words.new ≡ popped s port bits.old words.old }
 {
-    let mut answer = Answer::Refused(Refusal::BadShape);
-    let mut d = LEAST_STOREYS;
-    while d <= MOST_STOREYS {
+    for d in LEAST_STOREYS..MOST_STOREYS + 1 {
         if d == s.storeys {
-            let shape = Shape {
-                storeys: d,
-                nodes: s.nodes,
-                ports: s.ports,
-            };
-            answer = pop_at(bits, words, shape, port);
+            return pop_at(bits, words, Shape { storeys: d, ..s }, port);
         }
-        d += 1;
     }
-    answer
+    Err(Refusal::BadShape)
 }
 
 // A newcomer behind all of its rank there.
 pub fn push(bits: &mut [u64], words: &mut [u32], s: Shape, port: u32, e: Element) -> Answer
     ensures { outcome result bits.new words.new ≡ pushed s port bits.old words.old e }
 {
-    let mut answer = Answer::Refused(Refusal::BadShape);
-    let mut d = LEAST_STOREYS;
-    while d <= MOST_STOREYS {
+    for d in LEAST_STOREYS..MOST_STOREYS + 1 {
         if d == s.storeys {
-            let shape = Shape {
-                storeys: d,
-                nodes: s.nodes,
-                ports: s.ports,
-            };
-            answer = push_at(bits, words, shape, port, e);
+            return push_at(bits, words, Shape { storeys: d, ..s }, port, e);
         }
-        d += 1;
     }
-    answer
+    Err(Refusal::BadShape)
 }
 
 // A pop, and then a push of the newcomer, at one port: the first element of its lowest rank, even if the newcomer's rank is
@@ -126,73 +108,74 @@ pub fn replace(bits: &mut [u64], words: &mut [u32], s: Shape, port: u32, e: Elem
     ensures { outcome result bits.new words.new ≡ replaced s port bits.old words.old e }
 {
     if !is_known(bits, words, s, port) {
-        return Answer::Refused(shape_or_port(bits, words, s));
+        return Err(shape_or_port(bits, words, s));
     }
     let k = seat_of(s, port);
-    let rank = e.rank;
     if !may_come(k, e) {
-        return Answer::Refused(rank_or_tag(k, e));
+        return Err(rank_or_tag(k, e));
     }
     let t = add_up(words, k.free, s.ports as usize);
     if !has_some(bits, words, k, t) {
-        return Answer::Refused(limit_or_damage(bits, words, k, t, Refusal::Empty));
+        return Err(limit_or_damage(bits, words, k, t, Refusal::Empty));
     }
-    let low = find_lowest(bits, words, k);
-    if !low.good {
-        return Answer::Refused(Refusal::Damaged);
-    }
-    let room = room_after(words, k, low, rank.0);
+    let Some(low) = find_lowest(bits, words, k) else {
+        return Err(Refusal::Damaged);
+    };
+    let Some(room) = room_after(words, k, low, e.rank.0) else {
+        return Err(Refusal::Damaged);
+    };
     let held = held_count(words, k);
-    if !(room.good & agrees_after(bits, k, low, rank.0, room.tail == 0, held)) {
-        return Answer::Refused(Refusal::Damaged);
+    if !agrees_after(bits, k, low, e.rank.0, room.tail == 0, held) {
+        return Err(Refusal::Damaged);
     }
     let first = element_of(words, k, low.rank, low.head);
     swap(bits, words, k, low, e, room);
     show(bits, k, e, room);
-    Answer::Out(first)
+    Ok(Some(first))
 }
 
-// ---- the same at a depth that is known
+// ---- the same at a depth that is known: the steps after the tests stand here as in `bucket`, since a function with two callers would not be inlined
+// (docs/DECISIONS.md, "code for each depth, text for none")
 
 fn pop_at(bits: &mut [u64], words: &mut [u32], s: Shape, port: u32) -> Answer
     ensures { outcome result bits.new words.new ≡ popped s port bits.old words.old }
 {
     if !is_known(bits, words, s, port) {
-        return Answer::Refused(shape_or_port(bits, words, s));
+        return Err(shape_or_port(bits, words, s));
     }
     let k = seat_of(s, port);
     let t = add_up(words, k.free, s.ports as usize);
     if !has_some(bits, words, k, t) {
-        return Answer::Refused(limit_or_damage(bits, words, k, t, Refusal::Empty));
+        return Err(limit_or_damage(bits, words, k, t, Refusal::Empty));
     }
-    let low = find_lowest(bits, words, k);
-    if !low.good {
-        return Answer::Refused(Refusal::Damaged);
-    }
+    let Some(low) = find_lowest(bits, words, k) else {
+        return Err(Refusal::Damaged);
+    };
     let out = element_of(words, k, low.rank, low.head);
     take(bits, words, k, low);
-    Answer::Out(out)
+    Ok(Some(out))
 }
 
 fn push_at(bits: &mut [u64], words: &mut [u32], s: Shape, port: u32, e: Element) -> Answer
     ensures { outcome result bits.new words.new ≡ pushed s port bits.old words.old e }
 {
     if !is_known(bits, words, s, port) {
-        return Answer::Refused(shape_or_port(bits, words, s));
+        return Err(shape_or_port(bits, words, s));
     }
     let k = seat_of(s, port);
-    let rank = e.rank;
     if !may_come(k, e) {
-        return Answer::Refused(rank_or_tag(k, e));
+        return Err(rank_or_tag(k, e));
     }
     let t = add_up(words, k.free, s.ports as usize);
     if !has_room(bits, words, k, t) {
-        return Answer::Refused(limit_or_damage(bits, words, k, t, Refusal::Full));
+        return Err(limit_or_damage(bits, words, k, t, Refusal::Full));
     }
-    let to = find_room(words, k, t.used as u32, rank.0);
-    if !(to.good & agrees(bits, k, rank.0, to.tail == 0)) {
-        return Answer::Refused(Refusal::Damaged);
+    let Some(to) = find_room(words, k, t.used as u32, e.rank.0) else {
+        return Err(Refusal::Damaged);
+    };
+    if !agrees(bits, k, e.rank.0, to.tail == 0) {
+        return Err(Refusal::Damaged);
     }
     join(bits, words, k, e, to);
-    Answer::Done
+    Ok(None)
 }

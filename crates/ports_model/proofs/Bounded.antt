@@ -2,7 +2,7 @@
 use Rattle.laws.specs.Prelude.{Element, Idle, List, Pop, Push, Replace, Request, [], ◌++◌, ◌+◌, ◌-◌, ◌<◌, ◌^◌, ◌∷◌, ◌≡◌, ◌≤◌, ◌⊎◌, ap, arith, dec_lt, inl, inr, length, length-set, max, ℕ, ℕ_discrete}
 use Rattle.promise.proofs.Tabled.{Passed, either}
 use Rattle.bucket_model.specs.declared.Lay.{Lay}
-use Rattle.bucket_model.specs.declared.Room as found
+use Rattle.bucket_model.specs.Calls as found
 use Rattle.bucket_model.specs.Prelude.{Outcome, Store, joined_words, link_at, load_of, load_writes, lowest_of, next_at, tail_at, word, write}
 use Rattle.bucket_model.proofs.Laws.{held_after, joined_length, same, taken-length}
 use Rattle.ports_model.specs.Prelude.{Bounds, Framed, Room, Shape, Shaped, Whole, asked, bits_after, call_table, ceiling_at, claimed_in, done, floor_at, held_at, room_after, room_of, seat, words_after}

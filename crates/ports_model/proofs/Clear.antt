@@ -1,5 +1,5 @@
 -- A cleared store: every port holds nothing, and its floor and its ceiling are those that were handed over.
-use Rattle.laws.specs.Prelude.{Done, List, [], ◌%◌, ◌*◌, ◌+◌, ◌-◌, ◌/◌, ◌<◌, ◌∙◌, ◌≡◌, ◌≤◌, ap, arith, eq-eqb, le-ltb, lt-ltb, means-and, refl, sym, to-zero, ℕ}
+use Rattle.laws.specs.Prelude.{List, [], ◌%◌, ◌*◌, ◌+◌, ◌-◌, ◌/◌, ◌<◌, ◌∙◌, ◌≡◌, ◌≤◌, ap, arith, eq-eqb, le-ltb, lt-ltb, means-and, refl, sym, to-zero, ℕ, Ok, None}
 use Rattle.bucket_model.specs.Prelude.{fill, head_at, outcome, word}
 use Rattle.bucket_model.specs.Calls as bucket
 use Rattle.bucket_model.proofs.Laws.{blank-from, fill-at, fill-length, flag, fresh-blank, fresh-free, fresh-linked, fresh-list, fresh_own, fresh_q, loads, order-none}
@@ -73,5 +73,5 @@ module _ (s : Shape) (lim : List ℕ) where
           sound = none-sound s lim f;
         }
 
-    pub clear-done : cleared s lim b w ≡ outcome Done (fill (λ j. 0) (bit_words s) b) (fill (blank_word s lim) (store_words s) w)
+    pub clear-done : cleared s lim b w ≡ outcome (Ok None) (fill (λ j. 0) (bit_words s) b) (fill (blank_word s lim) (store_words s) w)
     clear-done = sym (told.clear-done s lim b w _ _ ((means-and (shape-means s b w) (limits-mean s lim)).holds (H, f)) refl refl)

@@ -1,5 +1,5 @@
 -- Every call is refused exactly when the table says so, and then leaves everything behind; and what else follows of every call from the table that decides it.
-use Rattle.laws.specs.Prelude.{Done, Element, Idle, List, Pop, Push, Replace, Request, ◌≡◌, means-and, means-eqb, means-ltb, means-not, refl, ℕ}
+use Rattle.laws.specs.Prelude.{Element, Idle, List, Pop, Push, Replace, Request, ◌≡◌, means-and, means-eqb, means-ltb, means-not, refl, ℕ, Ok, None}
 use Rattle.promise.proofs.Calls.{grants-zero}
 use Rattle.promise.proofs.Tabled as tabled
 use Rattle.promise.proofs.Tabled.{Goes}
@@ -9,7 +9,7 @@ use Rattle.bucket_model.proofs.Laws.{join-means, pop-means, said, tag-means}
 use Rattle.ports_model.specs.Prelude.{Shape, asked, bit_words, bits_after, blank_word, call_table, clear_table, cleared, done, give_table, held_at, held_count, held_table, popped, pushed, ranks_of, replace_found, replaced, room_after_table, seat, store_words, used_in, words_after}
 use Rattle.ports_model.proofs.Facts.{shape-means, limits-mean, whole-means, room-means, after-means}
 
-pub goes-clear : (s : Shape) (lim b w : List ℕ) → Goes said (λ x. refused x b w) (clear_table s lim b w) (outcome Done (fill (λ j. 0) (bit_words s) b) (fill (blank_word s lim) (store_words s) w)) (cleared s lim b w)
+pub goes-clear : (s : Shape) (lim b w : List ℕ) → Goes said (λ x. refused x b w) (clear_table s lim b w) (outcome (Ok None) (fill (λ j. 0) (bit_words s) b) (fill (blank_word s lim) (store_words s) w)) (cleared s lim b w)
 unfolding cleared
 goes-clear s lim b w = record { told = (means-and (shape-means s b w) (limits-mean s lim), λ _. tt); is = refl; done = refl; number = λ x. refl }
 

@@ -1,7 +1,7 @@
 -- What a call at a port leaves alone, on any words whatever.
 use Rattle.laws.specs.Prelude.{Answer, Element, Idle, List, Pop, Push, Replace, Request, ◌+◌, ◌<◌, ◌^◌, ◌∙◌, ◌≡◌, ◌≤◌, ◌⊎◌, arith, inl, inr, length, max, refl, true, ℕ}
 use Rattle.promise.proofs.Tabled.{Passed, either}
-use Rattle.bucket_model.specs.declared.Lowest.{Lowest}
+use Rattle.bucket_model.specs.Calls.{Lowest}
 use Rattle.bucket_model.specs.Layout as bucket
 use Rattle.bucket_model.specs.Prelude.{Laid, Outcome, PopFit, Store, head_at, lowest_of, lowest_rank, outcome, room_with, tail_at, word}
 use Rattle.bucket_model.proofs.Laws.{Foreign, fill-length, fill-past, free-after, joined-bits-away, joined-bits-length, joined-foreign, joined_length, low-head, low-lt, pop-means, taken-bits-away, taken-bits-length, taken-foreign, taken-length}

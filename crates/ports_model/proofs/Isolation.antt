@@ -1,5 +1,5 @@
 -- What the other ports can touch.
-use Rattle.laws.specs.Prelude.{BadRank, Bool, Done, Element, Idle, List, NoTag, Pop, Push, Refused, Replace, [], ◌&&◌, ◌++◌, ◌-◌, ◌<◌, ◌||◌, ◌∙◌, ◌∷◌, ◌≡◌, ap, arith, cond, dec_lt, eq-eqb, eqb, false, false≢true, is-upd, leb, leb-false, length, lt-ltb, ltb, ne_eqb, not, refl, subst, sym, true, true≢false, untagged, ℕ, ℕ_discrete}
+use Rattle.laws.specs.Prelude.{BadRank, Bool, Element, Idle, List, NoTag, Pop, Push, Replace, [], ◌&&◌, ◌++◌, ◌-◌, ◌<◌, ◌||◌, ◌∙◌, ◌∷◌, ◌≡◌, ap, arith, cond, dec_lt, eq-eqb, eqb, false, false≢true, is-upd, leb, leb-false, length, lt-ltb, ltb, ne_eqb, not, refl, subst, sym, true, true≢false, untagged, ℕ, ℕ_discrete, Ok, None, Err}
 use Rattle.promise.specs.Prelude.{Step, leaves, step}
 use Rattle.bucket_model.specs.Plain as plain
 use Rattle.bucket_model.specs.Prelude.{Call, Said, answered, ask, held, insert, plain_with, roomy}
@@ -86,7 +86,7 @@ unfolding plain_with
 push-same ranks x y e l q = go (ltb e.rank.0 ranks) (not (untagged e)) x y q
   where
     T : Bool → Bool → Bool → plain.Step (List Element)
-    T a b x = cond a (cond b (roomy x l (plain.step (answered Done) (insert e l))) (plain.step (answered (Refused NoTag)) l)) (plain.step (answered (Refused BadRank)) l)
+    T a b x = cond a (cond b (roomy x l (plain.step (answered (Ok None)) (insert e l))) (plain.step (answered (Err NoTag)) l)) (plain.step (answered (Err BadRank)) l)
 
     go : (a b x y : Bool) → agreed_to (T a b x).said ≡ agreed_to (T a b y).said → T a b x ≡ T a b y
     go true false x y q = refl

@@ -1,7 +1,7 @@
 -- Each answer of each call at a port, from what the call has tested.
-use Rattle.laws.specs.Prelude.{BadPort, BadRank, BadShape, Damaged, Done, Element, Empty, Full, Held, List, NoTag, Out, Unknown, ◌&&◌, ◌<◌, ◌≡◌, ◌≤◌, eq-eqb, false, le-ltb, lt-ltb, ne_eqb, true, untagged, ℕ}
-use Rattle.bucket_model.specs.declared.Lowest.{Lowest}
-use Rattle.bucket_model.specs.declared.Room.{Room}
+use Rattle.laws.specs.Prelude.{BadPort, BadRank, BadShape, Damaged, Element, Empty, Full, List, NoTag, ◌&&◌, ◌<◌, ◌≡◌, ◌≤◌, eq-eqb, false, le-ltb, lt-ltb, ne_eqb, true, untagged, ℕ, Ok, Err, None, Some}
+use Rattle.bucket_model.specs.Calls.{Lowest}
+use Rattle.bucket_model.specs.Calls.{Room}
 use Rattle.bucket_model.specs.Prelude.{fill, given, joined_bits, joined_words, lowest_of, outcome, pop_found, push_found, refused, replace_joined, taken_bits, taken_words, word}
 use Rattle.ports_model.specs.Prelude.{Shape, bit_words, blank_word, cleared, has_room, held_at, held_count, is_shaped, is_whole, limits_ok, popped, pushed, ranks_of, replace_found, replaced, room_after, room_of, seat, store_words}
 
@@ -9,14 +9,14 @@ pub clear-bad : (s : Shape) (lim b w : List ℕ) → (is_shaped s b w && limits_
 unfolding cleared
 clear-bad s lim b w e = simp e
 
-pub clear-done : (s : Shape) (lim b w b' w' : List ℕ) → (is_shaped s b w && limits_ok s lim) ≡ true → b' ≡ fill (λ j. 0) (bit_words s) b → w' ≡ fill (blank_word s lim) (store_words s) w → outcome Done b' w' ≡ cleared s lim b w
+pub clear-done : (s : Shape) (lim b w b' w' : List ℕ) → (is_shaped s b w && limits_ok s lim) ≡ true → b' ≡ fill (λ j. 0) (bit_words s) b → w' ≡ fill (blank_word s lim) (store_words s) w → outcome (Ok None) b' w' ≡ cleared s lim b w
 unfolding cleared
 clear-done s lim b w b' w' e p q = simp (e, p, q)
 
 module _ (s : Shape) (p : ℕ) (b w : List ℕ) where
   -- ---- 1 and 8
 
-  pub held-bad : is_shaped s b w ≡ false → Unknown BadShape ≡ held_count s p b w
+  pub held-bad : is_shaped s b w ≡ false → Err BadShape ≡ held_count s p b w
   unfolding held_count
   held-bad z = simp z
 
@@ -33,7 +33,7 @@ module _ (s : Shape) (p : ℕ) (b w : List ℕ) where
   replace-bad x z = simp z
 
   module _ (h : is_shaped s b w ≡ true) where
-    pub held-unknown : s.ports ≤ p → Unknown BadPort ≡ held_count s p b w
+    pub held-unknown : s.ports ≤ p → Err BadPort ≡ held_count s p b w
     unfolding held_count
     held-unknown l = simp (h, le-ltb _ _ l)
 
@@ -52,11 +52,11 @@ module _ (s : Shape) (p : ℕ) (b w : List ℕ) where
     module _ (p< : p < s.ports) where
       -- ---- held
 
-      pub held-torn : is_whole s p b w ≡ false → Unknown Damaged ≡ held_count s p b w
+      pub held-torn : is_whole s p b w ≡ false → Err Damaged ≡ held_count s p b w
       unfolding held_count
       held-torn j = simp (h, lt-ltb _ _ p<, j)
 
-      pub held-told : (n : ℕ) → is_whole s p b w ≡ true → n ≡ word w (held_at s p) → Held n ≡ held_count s p b w
+      pub held-told : (n : ℕ) → is_whole s p b w ≡ true → n ≡ word w (held_at s p) → Ok n ≡ held_count s p b w
       unfolding held_count
       held-told n j e = simp (h, lt-ltb _ _ p<, j, e)
 
@@ -72,7 +72,7 @@ module _ (s : Shape) (p : ℕ) (b w : List ℕ) where
           unfolding popped pop_found
           pop-unfit g = simp (h, lt-ltb _ _ p<, j, ne_eqb _ _ z, ← e, g)
 
-          pub pop-out : (y : Element) (b' w' : List ℕ) → low.good ≡ true → y ≡ given (seat s p) w low → b' ≡ taken_bits (seat s p) b low → w' ≡ taken_words (seat s p) w low → outcome (Out y) b' w' ≡ popped s p b w
+          pub pop-out : (y : Element) (b' w' : List ℕ) → low.good ≡ true → y ≡ given (seat s p) w low → b' ≡ taken_bits (seat s p) b low → w' ≡ taken_words (seat s p) w low → outcome (Ok (Some y)) b' w' ≡ popped s p b w
           unfolding popped pop_found
           pop-out y b' w' g u f t = simp (h, lt-ltb _ _ p<, j, ne_eqb _ _ z, ← e, g, u, f, t)
 
@@ -99,7 +99,7 @@ module _ (s : Shape) (p : ℕ) (b w : List ℕ) where
                 unfolding pushed push_found
                 push-unfit g = simp (h, lt-ltb _ _ p<, lt-ltb _ _ l, t, j, z, ← e, g)
 
-                pub push-done : (b' w' : List ℕ) → to.good ≡ true → b' ≡ joined_bits (seat s p) b x to → w' ≡ joined_words (seat s p) w x to → outcome Done b' w' ≡ pushed s p b w x
+                pub push-done : (b' w' : List ℕ) → to.good ≡ true → b' ≡ joined_bits (seat s p) b x to → w' ≡ joined_words (seat s p) w x to → outcome (Ok None) b' w' ≡ pushed s p b w x
                 unfolding pushed push_found
                 push-done b' w' g f u = simp (h, lt-ltb _ _ p<, lt-ltb _ _ l, t, j, z, ← e, g, f, u)
 
@@ -132,6 +132,6 @@ module _ (s : Shape) (p : ℕ) (b w : List ℕ) where
                   replace-shut u = simp (h, lt-ltb _ _ p<, lt-ltb _ _ l, t, j, ne_eqb _ _ z, ← e, g, ← f, u)
 
                   pub replace-out : (y : Element) (b1 w1 b' w' : List ℕ) → to.good ≡ true → y ≡ given (seat s p) w low → b1 ≡ taken_bits (seat s p) b low → w1 ≡ taken_words (seat s p) w low
-                      → b' ≡ joined_bits (seat s p) b1 x to → w' ≡ joined_words (seat s p) w1 x to → outcome (Out y) b' w' ≡ replaced s p b w x
+                      → b' ≡ joined_bits (seat s p) b1 x to → w' ≡ joined_words (seat s p) w1 x to → outcome (Ok (Some y)) b' w' ≡ replaced s p b w x
                   unfolding replaced replace_found replace_joined
                   replace-out y b1 w1 b' w' v u f1 t1 f2 t2 = simp (h, lt-ltb _ _ p<, lt-ltb _ _ l, t, j, ne_eqb _ _ z, ← e, g, ← f, v, u, f2, t2, f1, t1)

@@ -1,5 +1,5 @@
 -- The room of the pool, floors and ceilings, on the plain lists.
-use Rattle.laws.specs.Prelude.{BadPort, BadRank, Bool, Done, Element, Idle, List, Means, NoTag, Pop, Push, Refused, Replace, [], ◌+◌, ◌-◌, ◌<◌, ◌∷◌, ◌≡◌, ◌≤◌, ◌⊎◌, ap, arith, cond, dec_lt, false, inl, inr, is-upd, le-ltb, length, lt-ltb, ltb, max, means-and, means-ltb, not, refl, subst, suc, sym, true, untagged, upd, ℕ, ℕ_discrete}
+use Rattle.laws.specs.Prelude.{BadPort, BadRank, Bool, Element, Idle, List, Means, NoTag, Pop, Push, Replace, [], ◌+◌, ◌-◌, ◌<◌, ◌∷◌, ◌≡◌, ◌≤◌, ◌⊎◌, ap, arith, cond, dec_lt, false, inl, inr, is-upd, le-ltb, length, lt-ltb, ltb, max, means-and, means-ltb, not, refl, subst, suc, sym, true, untagged, upd, ℕ, ℕ_discrete, Ok, None, Err}
 use Rattle.promise.specs.Prelude.{Step, leaves, leaves-keep, step}
 use Rattle.bucket_model.specs.Plain as plain
 use Rattle.bucket_model.specs.Prelude.{Call, answered, ask, held, insert, plain_pop, plain_replace, plain_with, ranked, roomy, tagged}
@@ -18,12 +18,12 @@ Moves room l m = (length m ≡ length l) ⊎ (((room ≡ true) × (length m ≡ 
 fit_moves : (ranks : ℕ) (e : Element) (room : Bool) (l : List Element) (x : plain.Step (List Element)) → Moves room l x.next → Moves room l (ranked ranks e l (tagged e l x)).next
 fit_moves ranks e room l x h = go (ltb e.rank.0 ranks) (not (untagged e))
   where
-    go : (a b : Bool) → Moves room l (cond a (cond b x (plain.step (answered (Refused NoTag)) l)) (plain.step (answered (Refused BadRank)) l)).next
+    go : (a b : Bool) → Moves room l (cond a (cond b x (plain.step (answered (Err NoTag)) l)) (plain.step (answered (Err BadRank)) l)).next
     go true true = h
     go true false = inl refl
     go false b = inl refl
 
-push-moves : (e : Element) (room : Bool) (l : List Element) → Moves room l (roomy room l (plain.step (answered Done) (insert e l))).next
+push-moves : (e : Element) (room : Bool) (l : List Element) → Moves room l (roomy room l (plain.step (answered (Ok None)) (insert e l))).next
 push-moves e true l = inr (inl (refl, insert-length e l))
 push-moves e false l = inl refl
 
@@ -38,7 +38,7 @@ replace-moves e room (x ∷ l) = inl (insert-length e l)
 pub plain-moves : (ranks : ℕ) (room : Bool) (c : Call) (l : List Element) → Moves room l (plain_with ranks room c l).next
 unfolding plain_with
 plain-moves ranks room (ask Idle) l = inl refl
-plain-moves ranks room (ask (Push e)) l = fit_moves ranks e room l (roomy room l (plain.step (answered Done) (insert e l))) (push-moves e room l)
+plain-moves ranks room (ask (Push e)) l = fit_moves ranks e room l (roomy room l (plain.step (answered (Ok None)) (insert e l))) (push-moves e room l)
 plain-moves ranks room (ask Pop) l = pop-moves room l
 plain-moves ranks room (ask (Replace e)) l = fit_moves ranks e room l (plain_replace e l) (replace-moves e room l)
 plain-moves ranks room held l = inl refl

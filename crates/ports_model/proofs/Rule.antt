@@ -1,8 +1,8 @@
 -- 02's rule of acceptance on the words, what a replace is, and what a pop gives: on every store that calls lead to.
-use Rattle.laws.specs.Prelude.{Bool, Done, Element, Iff, List, Means, Out, Pop, Push, Replace, ◌<◌, ◌∙◌, ◌∷◌, ◌≡◌, ap, arith, cond, count_number, count_of, false, inl, is-upd, length, lt-ltb, means-no, means-off, number_of, refl, subst, sym, true, untagged, ℕ}
+use Rattle.laws.specs.Prelude.{Bool, Element, Iff, List, Means, Pop, Push, Replace, ◌<◌, ◌∙◌, ◌∷◌, ◌≡◌, ap, arith, cond, count_number, count_of, false, inl, is-upd, length, lt-ltb, means-no, means-off, number_of, refl, subst, sym, true, untagged, ℕ, Ok, None, Some}
 use Rattle.promise.proofs.Tabled.{granted, passes}
 use Rattle.promise.specs.Prelude.{Step, leaves, untagged-means}
-use Rattle.strip.specs.declared.Count.TheVariants as count
+use Rattle.std.specs.Prelude.{Ok}
 use Rattle.bucket_model.specs.Prelude.{Outcome, Said, Sorted, Store, answered, ask, counted, held, plain_with, roomy, said_number, word}
 use Rattle.bucket_model.specs.Plain as plain
 use Rattle.ports_model.specs.Prelude.{Ask, Fair, FirstOut, Lists, Room, Shape, Shaped, Swaps, accepts, asked, at, called, ceiling_at, ceiling_of, floor_at, floor_of, has_room, held_count, many_at, none, ranks_of, served, start, stored_at, used_in}
@@ -58,7 +58,7 @@ module _ (s : Shape) (lim b w : List ℕ) (shaped : Shaped s b w) (fair : Fair s
         ∙ rw (lt-ltb e.rank.0 (ranks_of s) r<, tag) (roomy-said (accepts s lim lists p))
         ∙ ap (λ (t : Bool). cond t 0 5) (sym (room-is s (deep s lim b w shaped fair) shaped.some lim now.bits now.words lists H p p<))
       where
-        roomy-said : (a : Bool) → said_number (roomy a (lists p) (plain.step (answered Done) (plain.insert e (lists p)))).said ≡ cond a 0 5
+        roomy-said : (a : Bool) → said_number (roomy a (lists p) (plain.step (answered (Ok None)) (plain.insert e (lists p)))).said ≡ cond a 0 5
         roomy-said true = refl
         roomy-said false = refl
 
@@ -82,7 +82,7 @@ module _ (s : Shape) (lim b w : List ℕ) (shaped : Shaped s b w) (fair : Fair s
       omega (arith, spare-node s lim lists H.sound p p< ((accepts-means s lim lists p).says (sym r ∙ (room-means s p now.words).holds a)), used-is s (deep s lim b w shaped fair) shaped.some lim now.bits now.words lists H)
 
   -- LEAST: what a pop gives is the first of all that the port holds, and nothing held there has a lower rank
-  pub least : (y : Element) → (asked s p Pop (leaves (called s) as' (start s lim b w))).answer ≡ Out y → FirstOut s p (leaves (called s) as' (start s lim b w)) y
+  pub least : (y : Element) → (asked s p Pop (leaves (called s) as' (start s lim b w))).answer ≡ Ok (Some y) → FirstOut s p (leaves (called s) as' (start s lim b w)) y
   unfolding asked
   least y a =
       let f = pop-first s (deep s lim b w shaped fair) shaped.some lim now lists H p p< y a in
@@ -101,6 +101,6 @@ module _ (s : Shape) (lim b w : List ℕ) (shaped : Shaped s b w) (fair : Fair s
       × (count_of (held_count s p (leaves (called s) as' (start s lim b w)).bits (leaves (called s) as' (start s lim b w)).words) ≡ length (stored_at s p (leaves (called s) as' (start s lim b w))))
   unfolding called plain_with
   held-says =
-      let e : counted (held_count s p now.bits now.words) ≡ counted (count.Held (length (lists p))) = (calls s (deep s lim b w shaped fair) shaped.some lim now lists H (at p held)).alike ∙ ap (λ (y : Step Said Lists). y.said) (served-in s lim (at p held) lists p<) in
-      let c : held_count s p now.bits now.words ≡ count.Held (length (lists p)) = cc in
+      let e : counted (held_count s p now.bits now.words) ≡ counted (Ok (length (lists p))) = (calls s (deep s lim b w shaped fair) shaped.some lim now lists H (at p held)).alike ∙ ap (λ (y : Step Said Lists). y.said) (served-in s lim (at p held) lists p<) in
+      let c : held_count s p now.bits now.words ≡ Ok (length (lists p)) = cc in
       (ap count_number c, ap count_of c ∙ ap length (sym (keeps s lim b w shaped fair as' p p<)))

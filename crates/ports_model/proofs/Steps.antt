@@ -1,8 +1,8 @@
 -- A store whose ports hold lists does what the plain lists do, call by call.
-use Rattle.laws.specs.Prelude.{BadPort, BadRank, Bool, Done, Element, Empty, Full, Held, Idle, List, NoTag, Out, Pop, Push, Refused, Replace, [], ◌-◌, ◌<◌, ◌∙◌, ◌∷◌, ◌≡◌, ◌≤◌, ap, arith, cond, dec_lt, false, inl, inr, is-upd, le-ltb, length, length_of, lt-ltb, not, number_of, rank_of, refl, same-upd, subst, suc, sym, tag_of, true, untagged, upd, ℕ, ℕ_discrete}
+use Rattle.laws.specs.Prelude.{BadPort, BadRank, Bool, Element, Empty, Full, Idle, List, NoTag, Pop, Push, Replace, [], ◌-◌, ◌<◌, ◌∙◌, ◌∷◌, ◌≡◌, ◌≤◌, ap, arith, cond, dec_lt, false, inl, inr, is-upd, le-ltb, length, length_of, lt-ltb, not, number_of, rank_of, refl, same-upd, subst, suc, sym, tag_of, true, untagged, upd, ℕ, ℕ_discrete, Ok, None, Some, Err}
 use Rattle.promise.specs.Prelude.{Step, step}
-use Rattle.bucket_model.specs.declared.Lowest.{Lowest}
-use Rattle.bucket_model.specs.declared.Room.{Room}
+use Rattle.bucket_model.specs.Calls.{Lowest}
+use Rattle.bucket_model.specs.Calls.{Room}
 use Rattle.bucket_model.specs.Prelude.{Call, Outcome, Said, Store, answered, ask, counted, held, insert, joined_bits, joined_words, lowest_of, lowest_rank, outcome, plain_pop, plain_replace, plain_with, refused, room_with, roomy, store, tagged, taken_bits, taken_words, word}
 use Rattle.bucket_model.specs.Plain as plain
 use Rattle.bucket_model.proofs.Laws.{HoldsIn, Popped, Pushed, insert-length, join-means, joined-bits-away, joined-bits-length, joined-foreign, joined_length, low-is, low-rank, pop-means, pop-way, pops, pushes, taken-bits-away, taken-bits-length, taken-foreign, taken-length}
@@ -124,16 +124,16 @@ module _ (s : Shape) (deep : 1 ≤ s.storeys) (some : 1 ≤ s.ports) (lim : List
           none [] e = e
           none (y ∷ m) e = let n : length (st p) ≡ suc (length m) = ap length e in absurd (omega (arith, h.held p p<))
 
-      call-held : Agree (called_at s p held x) (put (plain.step (counted (Held (length (st p)))) (st p)))
+      call-held : Agree (called_at s p held x) (put (plain.step (counted (Ok (length (st p)))) (st p)))
       call-held = record { alike = ap counted (sym (told.held-told s p b w shape-ok p< (length (st p)) whole-ok (sym (h.held p p<)))); holds = subst (Holds s deep some lim b w) (put_back st p (st p) refl) h }
 
       -- ---- push
 
-      push-agrees : (e : Element) → e.rank.0 < ranks_of s → untagged e ≡ false → Agree (ran (pushed s p b w e)) (put (roomy (accepts s lim st p) (st p) (plain.step (answered Done) (insert e (st p)))))
+      push-agrees : (e : Element) → e.rank.0 < ranks_of s → untagged e ≡ false → Agree (ran (pushed s p b w e)) (put (roomy (accepts s lim st p) (st p) (plain.step (answered (Ok None)) (insert e (st p)))))
       push-agrees e r< t = go (accepts s lim st p) refl
         where
-          go : (a : Bool) → accepts s lim st p ≡ a → Agree (ran (pushed s p b w e)) (put (roomy a (st p) (plain.step (answered Done) (insert e (st p)))))
-          go false a = by (pushed s p b w e) (refused Full b w) _ (told.push-full s p b w shape-ok p< e r< t whole-ok (room-is s deep some lim b w st h p p< ∙ a)) (stays (answered (Refused Full)) (st p) refl)
+          go : (a : Bool) → accepts s lim st p ≡ a → Agree (ran (pushed s p b w e)) (put (roomy a (st p) (plain.step (answered (Ok None)) (insert e (st p)))))
+          go false a = by (pushed s p b w e) (refused Full b w) _ (told.push-full s p b w shape-ok p< e r< t whole-ok (room-is s deep some lim b w st h p p< ∙ a)) (stays (answered (Err Full)) (st p) refl)
           go true a =
               by (pushed s p b w e) _ _
               (told.push-done s p b w shape-ok p< e r< t whole-ok (room-is s deep some lim b w st h p p< ∙ a) (room_of s p b w e.rank.0) refl _ _ ((join-means (seat s p) b w e.rank.0 (used_in s w)).holds (push-fits b w st h p p< e r< a).fit) refl refl)
@@ -147,19 +147,19 @@ module _ (s : Shape) (deep : 1 ≤ s.storeys) (some : 1 ≤ s.ports) (lim : List
       popping : (word w (held_at s p) ≡ 0 → ⊥) → (y : Element) × (l : List Element) × Gives y l
       popping z = pops (seat s p) (seating s deep p p<) (held_in_all s st - length (st p)) b w (st p) (port-holds s deep some lim b w st h p p<) z
 
-      pub pop-is : (word w (held_at s p) ≡ 0 → ⊥) → (y : Element) (l : List Element) → Gives y l → outcome (Out y) (taken_bits (seat s p) b (lowest_of (seat s p) b w)) (taken_words (seat s p) w (lowest_of (seat s p) b w)) ≡ popped s p b w
+      pub pop-is : (word w (held_at s p) ≡ 0 → ⊥) → (y : Element) (l : List Element) → Gives y l → outcome (Ok (Some y)) (taken_bits (seat s p) b (lowest_of (seat s p) b w)) (taken_words (seat s p) w (lowest_of (seat s p) b w)) ≡ popped s p b w
       pop-is z y l g = told.pop-out s p b w shape-ok p< whole-ok z (lowest_of (seat s p) b w) refl _ _ _ (good b w st h p p< y l g) (sym g.gives) refl refl
 
       -- what a pop gives is the first of the port's list
-      pub pop-first : (y : Element) → (popped s p b w).answer ≡ Out y → (l : List Element) × (st p ≡ y ∷ l) × Holds s deep some lim (popped s p b w).bits (popped s p b w).words (upd st p l)
+      pub pop-first : (y : Element) → (popped s p b w).answer ≡ Ok (Some y) → (l : List Element) × (st p ≡ y ∷ l) × Holds s deep some lim (popped s p b w).bits (popped s p b w).words (upd st p l)
       pop-first y a = elim (ℕ_discrete (word w (held_at s p)) 0) [ yes z ↦ absurd (none z) | no z ↦ gives z (popping z) ]
         where
           none : word w (held_at s p) ≡ 0 → ⊥
-          none z = let e : Refused Empty ≡ Out y = ap (λ (o : Outcome). o.answer) (told.pop-none s p b w shape-ok p< whole-ok z) ∙ a in let n : ◌≡◌ {A = ℕ} 0 1 = cc in omega arith
+          none z = let e : Err Empty ≡ Ok (Some y) = ap (λ (o : Outcome). o.answer) (told.pop-none s p b w shape-ok p< whole-ok z) ∙ a in let n : ◌≡◌ {A = ℕ} 0 1 = cc in omega arith
 
           gives : (word w (held_at s p) ≡ 0 → ⊥) → (v : Element) × (l : List Element) × Gives v l → (l : List Element) × (st p ≡ y ∷ l) × Holds s deep some lim (popped s p b w).bits (popped s p b w).words (upd st p l)
           gives z g =
-              let e : Out g.0 ≡ Out y = ap (λ (o : Outcome). o.answer) (pop-is z g.0 g.1 g.2) ∙ a in
+              let e : Ok (Some g.0) ≡ Ok (Some y) = ap (λ (o : Outcome). o.answer) (pop-is z g.0 g.1 g.2) ∙ a in
               let q : g.0 ≡ y = cc in
               (g.1, g.2.list ∙ ap (λ (v : Element). v ∷ g.1) q, subst (λ (o : Outcome). Holds s deep some lim o.bits o.words (upd st p g.1)) (pop-is z g.0 g.1 g.2) (pop-left b w st h p p< g.0 g.1 g.2))
 
@@ -169,7 +169,7 @@ module _ (s : Shape) (deep : 1 ≤ s.storeys) (some : 1 ≤ s.ports) (lim : List
           none : word w (held_at s p) ≡ 0 → Agree (ran (popped s p b w)) (put (plain_pop (st p)))
           none z =
               subst (λ (l : List Element). Agree (ran (popped s p b w)) (put (plain_pop l))) (sym (empty-list z))
-              (by (popped s p b w) (refused Empty b w) _ (told.pop-none s p b w shape-ok p< whole-ok z) (stays (answered (Refused Empty)) [] (sym (empty-list z))))
+              (by (popped s p b w) (refused Empty b w) _ (told.pop-none s p b w shape-ok p< whole-ok z) (stays (answered (Err Empty)) [] (sym (empty-list z))))
 
           gives : (word w (held_at s p) ≡ 0 → ⊥) → (y : Element) × (l : List Element) × Gives y l → Agree (ran (popped s p b w)) (put (plain_pop (st p)))
           gives z g =
@@ -208,13 +208,13 @@ module _ (s : Shape) (deep : 1 ≤ s.storeys) (some : 1 ≤ s.ports) (lim : List
           unfolding room_after
           room-same = let i = (whole-means s p B W).holds mid-whole in simp i
 
-          replace-is : outcome (Out y) (joined_bits (seat s p) B e (room_of s p B W e.rank.0)) (joined_words (seat s p) W e (room_of s p B W e.rank.0)) ≡ replaced s p b w e
+          replace-is : outcome (Ok (Some y)) (joined_bits (seat s p) B e (room_of s p B W e.rank.0)) (joined_words (seat s p) W e (room_of s p B W e.rank.0)) ≡ replaced s p b w e
           replace-is =
-              sym (ap (λ (v : Room). outcome (Out y) (joined_bits (seat s p) B e v) (joined_words (seat s p) W e v)) room-same)
+              sym (ap (λ (v : Room). outcome (Ok (Some y)) (joined_bits (seat s p) B e v) (joined_words (seat s p) W e v)) room-same)
               ∙ told.replace-out s p b w shape-ok p< e r< t whole-ok z (lowest_of (seat s p) b w) refl (good b w st h p p< y l g) (room_after s p B W e.rank.0) refl _ _ _ _ _ ((after-means s p B W e.rank.0).holds (mid-whole, fits.fit)) (sym g.gives) refl refl refl refl
 
           -- .. and the push of the newcomer, on the store as after the pop
-          push-mid : outcome Done (joined_bits (seat s p) B e (room_of s p B W e.rank.0)) (joined_words (seat s p) W e (room_of s p B W e.rank.0)) ≡ pushed s p B W e
+          push-mid : outcome (Ok None) (joined_bits (seat s p) B e (room_of s p B W e.rank.0)) (joined_words (seat s p) W e (room_of s p B W e.rank.0)) ≡ pushed s p B W e
           push-mid =
               told.push-done s p B W ((shape-means s B W).holds mid.shaped) p< e r< t ((whole-means s p B W).holds mid-whole) (room-is s deep some lim B W ts mid p p< ∙ mid-room) (room_of s p B W e.rank.0) refl _ _
               ((join-means (seat s p) B W e.rank.0 (used_in s W)).holds fits.fit) refl refl
@@ -224,7 +224,7 @@ module _ (s : Shape) (deep : 1 ≤ s.storeys) (some : 1 ≤ s.ports) (lim : List
           swaps =
               let P = sym (pop-is z y l g) in
               let left : pop_leaves s p x ≡ store B W = ap (λ (o : Outcome). store o.bits o.words) P in
-              let Q : asked s p (Push e) (pop_leaves s p x) ≡ outcome Done (joined_bits (seat s p) B e (room_of s p B W e.rank.0)) (joined_words (seat s p) W e (room_of s p B W e.rank.0)) = ap (λ (v : Store). pushed s p v.bits v.words e) left ∙ sym push-mid in
+              let Q : asked s p (Push e) (pop_leaves s p x) ≡ outcome (Ok None) (joined_bits (seat s p) B e (room_of s p B W e.rank.0)) (joined_words (seat s p) W e (room_of s p B W e.rank.0)) = ap (λ (v : Store). pushed s p v.bits v.words e) left ∙ sym push-mid in
               let A : (asked s p (Replace e) x).answer ≡ (asked s p Pop x).answer = ap (λ (o : Outcome). o.answer) (sym replace-is) ∙ sym (ap (λ (o : Outcome). o.answer) P) in
               record {
                 pop = ap (λ (o : Outcome). number_of o.answer) P;
@@ -262,7 +262,7 @@ module _ (s : Shape) (deep : 1 ≤ s.storeys) (some : 1 ≤ s.ports) (lim : List
             none : word w (held_at s p) ≡ 0 → Agree (ran (replaced s p b w e)) (put (plain_replace e (st p)))
             none z =
                 subst (λ (l : List Element). Agree (ran (replaced s p b w e)) (put (plain_replace e l))) (sym (empty-list z))
-                (by (replaced s p b w e) (refused Empty b w) _ (told.replace-none s p b w shape-ok p< e r< t whole-ok z) (stays (answered (Refused Empty)) [] (sym (empty-list z))))
+                (by (replaced s p b w e) (refused Empty b w) _ (told.replace-none s p b w shape-ok p< e r< t whole-ok z) (stays (answered (Err Empty)) [] (sym (empty-list z))))
 
             gives : (word w (held_at s p) ≡ 0 → ⊥) → (y : Element) × (l : List Element) × Gives y l → Agree (ran (replaced s p b w e)) (put (plain_replace e (st p)))
             gives z g = subst (λ (l : List Element). Agree (ran (replaced s p b w e)) (put (plain_replace e l))) (sym g.2.list) (swapped z g.0 g.1 g.2)
@@ -273,16 +273,16 @@ module _ (s : Shape) (deep : 1 ≤ s.storeys) (some : 1 ≤ s.ports) (lim : List
           → (e.rank.0 < ranks_of s → untagged e ≡ false → Agree (ran o) (put y)) → Agree (ran o) (put (plain.ranked (ranks_of s) e (st p) (tagged e (st p) y)))
       newcomer e o y high bare fit = elim (dec_lt e.rank.0 (ranks_of s)) [
         | yes r< ↦ rw (lt-ltb e.rank.0 (ranks_of s) r<) (go r< (untagged e) refl)
-        | no r< ↦ rw (le-ltb e.rank.0 (ranks_of s) (omega arith)) (by o (refused BadRank b w) _ (high (omega arith)) (stays (answered (Refused BadRank)) (st p) refl))
+        | no r< ↦ rw (le-ltb e.rank.0 (ranks_of s) (omega arith)) (by o (refused BadRank b w) _ (high (omega arith)) (stays (answered (Err BadRank)) (st p) refl))
       ]
         where
-          go : e.rank.0 < ranks_of s → (t : Bool) → untagged e ≡ t → Agree (ran o) (put (cond (not t) y (plain.step (answered (Refused NoTag)) (st p))))
-          go r< true t = by o (refused NoTag b w) _ (bare r< t) (stays (answered (Refused NoTag)) (st p) refl)
+          go : e.rank.0 < ranks_of s → (t : Bool) → untagged e ≡ t → Agree (ran o) (put (cond (not t) y (plain.step (answered (Err NoTag)) (st p))))
+          go r< true t = by o (refused NoTag b w) _ (bare r< t) (stays (answered (Err NoTag)) (st p) refl)
           go r< false t = fit r< t
 
       known : (c : Call) → Agree (called_at s p c x) (put (plain_with (ranks_of s) (accepts s lim st p) c (st p)))
       unfolding asked plain_with
-      known (ask Idle) = stays (answered Done) (st p) refl
+      known (ask Idle) = stays (answered (Ok None)) (st p) refl
       known (ask (Push e)) = newcomer e (pushed s p b w e) _ (told.push-high s p b w shape-ok p< e) (told.push-untagged s p b w shape-ok p< e) (push-agrees e)
       known (ask Pop) = call-pop
       known (ask (Replace e)) = newcomer e (replaced s p b w e) _ (told.replace-high s p b w shape-ok p< e) (told.replace-untagged s p b w shape-ok p< e) (replace-agrees e)

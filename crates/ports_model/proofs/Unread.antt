@@ -1,6 +1,6 @@
 -- What a call at a port does not read: the other ports' bits, heads and tails, and what stands behind the shape. Two stores that agree on the rest are answered the same and left the same there. Clear reads the limits alone.
-use Rattle.laws.specs.Prelude.{Answer, Bool, Done, Element, Idle, List, Out, Pop, Push, Replace, Request, ◌%◌, ◌&&◌, ◌*◌, ◌+◌, ◌-◌, ◌/◌, ◌<◌, ◌^◌, ◌∙◌, ◌≡◌, ◌≤◌, ap, arith, cond, dec_lt, eqb, inl, inr, le-ltb, leb, ltb, ltb-true, max, not, refl, suc, sym, to-ext, untagged, zero, ℕ}
-use Rattle.bucket_model.specs.declared.Lowest.{Lowest}
+use Rattle.laws.specs.Prelude.{Answer, Bool, Element, Idle, List, Pop, Push, Replace, Request, ◌%◌, ◌&&◌, ◌*◌, ◌+◌, ◌-◌, ◌/◌, ◌<◌, ◌^◌, ◌∙◌, ◌≡◌, ◌≤◌, ap, arith, cond, dec_lt, eqb, inl, inr, le-ltb, leb, ltb, ltb-true, max, not, refl, suc, sym, to-ext, untagged, zero, ℕ, Ok, None, Some}
+use Rattle.bucket_model.specs.Calls.{Lowest}
 use Rattle.bucket_model.specs.Prelude.{Agree, AgreeOn, AlikeOn, Laid, Outcome, given, lowest_of, outcome, push_found, replace_joined, room_with, store, taken_bits, taken_words, taking, word}
 use Rattle.bucket_model.specs.Calls as queue
 use Rattle.bucket_model.proofs.Laws.{Covers, Has, after-agrees, alike-cond, fill-at, given-same, has-taken, has-taken-bits, join-same, low_same, pop-found-same, push-found-same, room-same, standing, top-same}
@@ -150,7 +150,7 @@ module _ (s : Shape) (p : ℕ) (p< : p < s.ports) where
             (λ u. let t = after-agrees (seat s p) (L deep) B W own b c w v g h (long-bits b w z) (long-bits c v y) (long-words b w z) (long-words c v y) fits u in
             rw (after_same deep b1 c1 w1 v1 t.0 t.1 e.rank.0 l, given-same (seat s p) (L deep) B W own b c w v g h (long-bits b w z) (long-bits c v y) (long-words b w z) (long-words c v y) fits u)
             (alike-cond B W (room_after s p c1 v1 e.rank.0).good (room_after s p c1 v1 e.rank.0).good _ _ _ _ refl
-            (λ x. join-same (seat s p) (L deep) B W own b1 c1 w1 v1 t.0 t.1 (has-taken-bits B (seat s p) b low (long-bits b w z)) (has-taken-bits B (seat s p) c low (long-bits c v y)) (has-taken W (seat s p) w low (long-words b w z)) (has-taken W (seat s p) v low (long-words c v y)) e (room_after s p c1 v1 e.rank.0) (Out (given (seat s p) v low)) l)
+            (λ x. join-same (seat s p) (L deep) B W own b1 c1 w1 v1 t.0 t.1 (has-taken-bits B (seat s p) b low (long-bits b w z)) (has-taken-bits B (seat s p) c low (long-bits c v y)) (has-taken W (seat s p) w low (long-words b w z)) (has-taken W (seat s p) v low (long-words c v y)) e (room_after s p c1 v1 e.rank.0) (Ok (Some (given (seat s p) v low))) l)
             (stay _))) (stay _))
 
       unread-replace : (e : Element) → AlikeOn (ReadBits s p) (ReadWords s p) (replaced s p b w e) (replaced s p c v e)
@@ -160,7 +160,7 @@ module _ (s : Shape) (p : ℕ) (p< : p < s.ports) where
       -- UNREAD: every request at port p
       pub unread : (q : Request) → AlikeOn (ReadBits s p) (ReadWords s p) (asked s p q (store b w)) (asked s p q (store c v))
       unfolding asked
-      unread Idle = stay Done
+      unread Idle = stay (Ok None)
       unread (Push e) = unread-push e
       unread Pop = unread-pop
       unread (Replace e) = unread-replace e

@@ -1,8 +1,8 @@
 -- The five calls as functions of every word that they are lent, to their answer and every word that they leave. What is done at a port is the bucket queue's rule over the port's seat. These are definitions, and the contracts cite them.
 use Rattle.std.specs.Prelude.{◌%◌, ◌&&◌, ◌+◌, ◌-◌, ◌/◌}
-use Rattle.laws.specs.Prelude.{BadPort, BadShape, Count, Damaged, Done, Element, Empty, Full, Held, List, Unknown, cond, eqb, ltb, not, ℕ}
-use Rattle.bucket_model.specs.declared.Lowest.{Lowest}
-use Rattle.bucket_model.specs.declared.Room.{Room}
+use Rattle.laws.specs.Prelude.{BadPort, BadShape, Damaged, Element, Empty, Full, List, cond, eqb, ltb, not, ℕ, Result, Refusal, Ok, Err, None}
+use Rattle.bucket_model.specs.Calls.{Lowest}
+use Rattle.bucket_model.specs.Calls.{Room}
 use Rattle.bucket_model.specs.Prelude.{Outcome, fill, lowest_of, outcome, pop_found, push_found, refused, replace_joined, room_with, taken_bits, taken_words, taking, word}
 use Rattle.bucket_model.specs.Calls as bucket
 use Rattle.ports_model.specs.Layout.{Shape, port_words, bit_words, store_words, free_at, held_at, seat, floor_of, ceiling_of}
@@ -21,7 +21,7 @@ blank_word s lim j = cond (ltb (free_at s) j) (blank_port lim (j - (free_at s + 
 unfoldable pub cleared : Shape → List ℕ → List ℕ → List ℕ → Outcome
 cleared s lim b w =
     cond (is_shaped s b w && limits_ok s lim)
-    (outcome Done (fill (λ j. 0) (bit_words s) b) (fill (blank_word s lim) (store_words s) w))
+    (outcome (Ok None) (fill (λ j. 0) (bit_words s) b) (fill (blank_word s lim) (store_words s) w))
     (refused BadShape b w)
 
 -- ---- at a port
@@ -31,11 +31,11 @@ abbrev pub known : Shape → ℕ → List ℕ → List ℕ → Outcome → Outco
 known s p b w o = cond (is_shaped s b w) (cond (ltb p s.ports) o (refused BadPort b w)) (refused BadShape b w)
 
 -- "Held is asked of one port"
-unfoldable pub held_count : Shape → ℕ → List ℕ → List ℕ → Count
+unfoldable pub held_count : Shape → ℕ → List ℕ → List ℕ → Result ℕ Refusal
 held_count s p b w =
     cond (is_shaped s b w)
-    (cond (ltb p s.ports) (cond (is_whole s p b w) (Held (word w (held_at s p))) (Unknown Damaged)) (Unknown BadPort))
-    (Unknown BadShape)
+    (cond (ltb p s.ports) (cond (is_whole s p b w) (Ok (word w (held_at s p))) (Err Damaged)) (Err BadPort))
+    (Err BadShape)
 
 -- what gives the lowest asks for whole words, 2, and then for something held at the port, 6
 abbrev pub giving : Shape → ℕ → List ℕ → List ℕ → Outcome → Outcome

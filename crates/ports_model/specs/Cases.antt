@@ -1,6 +1,6 @@
 -- Two ports on three nodes: calls, the answers that they want, and the words that the first leaves. These are definitions.
 use Rattle.std.specs.Prelude.{◌∷◌}
-use Rattle.laws.specs.Prelude.{BadPort, BadRank, Done, Empty, Full, Held, List, NoTag, Out, Pop, Push, Refused, Replace, Unknown, [], count_number, count_of, element, length_of, number_of, rank_of, tag_of, ℕ}
+use Rattle.laws.specs.Prelude.{BadPort, BadRank, Empty, Full, List, NoTag, Pop, Push, Replace, [], count_number, count_of, element, length_of, number_of, rank_of, tag_of, ℕ, Ok, Err, None, Some}
 use Rattle.bucket_model.specs.Prelude.{Said, answered, ask, counted, held}
 use Rattle.ports_model.specs.Layout.{Shape}
 use Rattle.ports_model.specs.Lists.{Ask, at}
@@ -22,10 +22,10 @@ sharing =
 
 abbrev pub sharing_says : List Said
 sharing_says =
-    answered Done ∷ answered Done ∷ answered (Refused Full) ∷ answered Done ∷ answered (Refused Full)
-    ∷ answered (Out (element 9 4 63)) ∷ answered (Out (element 7 1 60)) ∷ answered Done ∷ answered (Refused Full) ∷ answered (Refused Full)
-    ∷ answered (Out (element 2 6 65)) ∷ counted (Held 1) ∷ counted (Held 1) ∷ counted (Unknown BadPort) ∷ answered (Refused BadPort) ∷ answered (Refused BadRank) ∷ answered (Refused NoTag)
-    ∷ answered (Out (element 7 2 61)) ∷ answered (Refused Empty) ∷ answered (Refused Empty) ∷ []
+    answered (Ok None) ∷ answered (Ok None) ∷ answered (Err Full) ∷ answered (Ok None) ∷ answered (Err Full)
+    ∷ answered (Ok (Some (element 9 4 63))) ∷ answered (Ok (Some (element 7 1 60))) ∷ answered (Ok None) ∷ answered (Err Full) ∷ answered (Err Full)
+    ∷ answered (Ok (Some (element 2 6 65))) ∷ counted (Ok 1) ∷ counted (Ok 1) ∷ counted (Err BadPort) ∷ answered (Err BadPort) ∷ answered (Err BadRank) ∷ answered (Err NoTag)
+    ∷ answered (Ok (Some (element 7 2 61))) ∷ answered (Err Empty) ∷ answered (Err Empty) ∷ []
 
 -- floors that add up to N, and port 0's floor is its ceiling: port 0 has 1 and 1, port 1 has 2 and 3
 abbrev pub tight_limits : List ℕ

@@ -55,8 +55,8 @@ module _ (s : Shape) (p : ℕ) (b w : List ℕ) where
   abbrev pub whole_table : Table → Table
   whole_table a = needs Damaged (is_whole s p b w) (Whole s p b w) a
 
-  abbrev pub Some : Type 0
-  Some = word w (held_at s p) ≡ 0 → ⊥
+  abbrev pub HoldsSome : Type 0
+  HoldsSome = word w (held_at s p) ≡ 0 → ⊥
 
   abbrev pub held_table : Table
   held_table = port_table (whole_table ends)
@@ -65,7 +65,7 @@ module _ (s : Shape) (p : ℕ) (b w : List ℕ) where
   abbrev pub give_table : Table → Table
   give_table a =
       whole_table
-      (needs Empty (not (eqb (word w (held_at s p)) 0)) Some
+      (needs Empty (not (eqb (word w (held_at s p)) 0)) HoldsSome
       (needs Damaged (lowest_of (seat s p) b w).good (PopFit (seat s p) b w (lowest_rank (seat s p) b)) a))
 
   abbrev pub room_table : Element → Table → Table

@@ -1,6 +1,6 @@
 -- Several ports as plain lists, one a port, under 02's rule of acceptance; and what one port hears of a history. These are definitions.
 use Rattle.std.specs.Prelude.{◌&&◌, ◌++◌, ◌-◌, ◌<◌, ◌∷◌, ◌⊎◌}
-use Rattle.laws.specs.Prelude.{Answer, BadPort, Bool, Done, Element, Idle, List, Out, Pop, Push, Refusal, Refused, Replace, Unknown, [], cond, eqb, false, leb, length, ltb, max, sum_to, true, upd, ℕ}
+use Rattle.laws.specs.Prelude.{Answer, BadPort, Bool, Element, Idle, List, Pop, Push, Refusal, Replace, [], cond, eqb, false, leb, length, ltb, max, sum_to, true, upd, ℕ, Err, Ok, None, Some}
 use Rattle.promise.specs.Prelude.{Step, step}
 use Rattle.bucket_model.specs.Plain as plain
 use Rattle.bucket_model.specs.Prelude.{Call, Said, answered, ask, counted, held, plain_with}
@@ -18,11 +18,11 @@ at p c = record { port = p; call = c }
 
 -- a call that is refused; asking for nothing never is
 abbrev pub denied : Call → Refusal → Said
-denied (ask Idle) r = answered Done
-denied (ask (Push e)) r = answered (Refused r)
-denied (ask Pop) r = answered (Refused r)
-denied (ask (Replace e)) r = answered (Refused r)
-denied held r = counted (Unknown r)
+denied (ask Idle) r = answered (Ok None)
+denied (ask (Push e)) r = answered (Err r)
+denied (ask Pop) r = answered (Err r)
+denied (ask (Replace e)) r = answered (Err r)
+denied held r = counted (Err r)
 
 -- ---- what each port holds, in leaving order
 
@@ -103,9 +103,9 @@ calls_of (h ∷ hs) = h.call ∷ calls_of hs
 
 -- accepted, or refused
 abbrev pub agreed : Answer → Bool
-agreed Done = true
-agreed (Out x) = true
-agreed (Refused r) = false
+agreed (Ok None) = true
+agreed (Ok (Some x)) = true
+agreed (Err r) = false
 
 abbrev pub agreed_to : Said → Bool
 agreed_to (answered a) = agreed a

@@ -1,6 +1,6 @@
 -- What is promised of several ports on one pool, beside the plain lists. These are definitions.
 use Rattle.std.specs.Prelude.{◌*◌, ◌+◌, ◌<◌, ◌∷◌, ◌≡◌, ◌≤◌, ◌⊎◌}
-use Rattle.laws.specs.Prelude.{All, Done, Element, Iff, List, Pop, Push, Replace, eqb, length, length_of, number_of, rank_of, tag_of, ℕ}
+use Rattle.laws.specs.Prelude.{All, Element, Iff, List, Pop, Push, Replace, eqb, length, length_of, number_of, rank_of, tag_of, ℕ, Ok, None}
 use Rattle.bucket_model.specs.Prelude.{Depth, Outcome, Store, head_at, lane, load_in, next_at, store, storeys_at, storeys_from, tail_at, walk, word, words_of}
 use Rattle.ports_model.specs.Layout.{Shape, ranks_of, bit_words, store_words, nodes_at, free_at, held_at, floor_at, ceiling_at, seat}
 use Rattle.ports_model.specs.Checks.{used_in, claimed_in}
@@ -120,7 +120,7 @@ pub record Lies (d : Depth) (s : Shape) : Type 0 where
 
 -- clear, word by word: bits, heads and tails 0; each node 0, 0 and the link of the node after it, the last none; free link 1; each port's held 0, its floor and its ceiling as handed over. Behind the shape every word is as before, and no slice is longer or shorter
 pub record Blank (d : Depth) (s : Shape) (lim b w : List ℕ) (o : Outcome) : Type 0 where
-  pub answer : o.answer ≡ Done
+  pub answer : o.answer ≡ Ok None
   pub bits : (i : ℕ) → i < s.ports * d.bits → word o.bits i ≡ 0
   pub lists : (i : ℕ) → i < s.ports * (2 * d.ranks) → word o.words i ≡ 0
   pub tag : (i : ℕ) → i < s.nodes → word o.words (s.ports * (2 * d.ranks) + 3 * i) ≡ 0

@@ -1,5 +1,5 @@
 -- Lists of calls on the words of several ports, and what a port holds there. These are definitions.
-use Rattle.laws.specs.Prelude.{Done, Element, Idle, List, Pop, Push, Replace, Request, ℕ}
+use Rattle.laws.specs.Prelude.{Element, Idle, List, Pop, Push, Replace, Request, ℕ, Ok, None}
 use Rattle.promise.specs.Prelude.{Step, step}
 use Rattle.bucket_model.specs.Prelude.{Call, Outcome, Said, Store, answered, ask, counted, held, outcome, store, stored, word}
 use Rattle.ports_model.specs.Layout.{Shape, held_at, seat}
@@ -8,7 +8,7 @@ use Rattle.ports_model.specs.Lists.{Ask, Heard, heard_at}
 
 -- asking for nothing leaves everything
 unfoldable pub asked : Shape → ℕ → Request → Store → Outcome
-asked s p Idle x = outcome Done x.bits x.words
+asked s p Idle x = outcome (Ok None) x.bits x.words
 asked s p (Push e) x = pushed s p x.bits x.words e
 asked s p Pop x = popped s p x.bits x.words
 asked s p (Replace e) x = replaced s p x.bits x.words e

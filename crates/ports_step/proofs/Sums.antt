@@ -115,9 +115,9 @@ long-is s k e = ap (λ (k : Lay). k.free + (1 + port_words * s.ports)) e
 -- a seat by a queue of its own
 pub seat-is : (s : Shape) (p : ℕ) (k : Lay) → k ≡ queue s.storeys s.nodes
     → ◌≡◌ {A = Lay}
-    (record { storeys = s.storeys; tower = k.tower; bits = p * k.tower; ranks = k.ranks; heads = p * (2 * k.ranks); stem = s.ports * (2 * k.ranks) - node_words; nodes = s.nodes; free = s.ports * (2 * k.ranks) + node_words * s.nodes; held = s.ports * (2 * k.ranks) + node_words * s.nodes + (1 + port_words * p) })
+    (record { storeys = k.storeys; tower = k.tower; bits = p * k.tower; ranks = k.ranks; heads = p * (2 * k.ranks); stem = s.ports * (2 * k.ranks) - node_words; nodes = k.nodes; free = s.ports * (2 * k.ranks) + node_words * s.nodes; held = s.ports * (2 * k.ranks) + node_words * s.nodes + (1 + port_words * p) })
     (seat s p)
-seat-is s p k e = ap (λ (k : Lay). record { storeys = s.storeys; tower = k.tower; bits = p * k.tower; ranks = k.ranks; heads = p * (2 * k.ranks); stem = s.ports * (2 * k.ranks) - node_words; nodes = s.nodes; free = s.ports * (2 * k.ranks) + node_words * s.nodes; held = s.ports * (2 * k.ranks) + node_words * s.nodes + (1 + port_words * p) }) e
+seat-is s p k e = ap (λ (k : Lay). record { storeys = k.storeys; tower = k.tower; bits = p * k.tower; ranks = k.ranks; heads = p * (2 * k.ranks); stem = s.ports * (2 * k.ranks) - node_words; nodes = k.nodes; free = s.ports * (2 * k.ranks) + node_words * s.nodes; held = s.ports * (2 * k.ranks) + node_words * s.nodes + (1 + port_words * p) }) e
 
 pub tower-le : (s : Shape) (k : Lay) → Numbers s → k ≡ queue s.storeys s.nodes → k.tower ≤ 4161
 tower-le s k n e = rw e (few_words s.storeys n.three)

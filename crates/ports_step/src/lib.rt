@@ -11,16 +11,13 @@ ghost use Rattle.ports_model.specs.Checks.{is_shaped, limits_ok, whole_ok, room_
 ghost use Rattle.ports_step.specs.Sums.{Summed, Numbers, numbers_ok, whole_by, room_by};
 
 use bucket_model::Lay;
-use bucket_node::{free_link, held_count, queue_of};
+use bucket_node::{NODE, free_link, held_count, queue_of};
 use bucket_step::tests::{POOL, is_deep};
 use ports_model::Shape;
 use strip::Refusal;
 
 // The most ports that a pool may have.
 pub const MOST_PORTS: u32 = 16;
-
-// The words of a node.
-const NODE: usize = 3;
 
 // The words of a port behind the free link, and how far from it a first port's held count, floor and ceiling stand.
 pub const PORT: usize = 3;
@@ -36,6 +33,7 @@ const LIMITS: usize = 2;
 
 // Over all ports: how many nodes are in use; how many are in use or kept for a floor; and whether no port's floor, and nothing
 // that a port holds, is above its ceiling. The sums have 64 bits, so that no words can make them wrap.
+// No Option: `Summed` promises both sums where `kept` is false too.
 #[derive(Clone, Copy)]
 pub struct Totals {
     pub used: u64,
@@ -67,19 +65,13 @@ pub fn seat_of(s: Shape, port: u32) -> Lay
     let lists = 2 * (alone.ranks as usize);
     let nodes = (s.ports as usize) * lists;
     let free = nodes + NODE * (s.nodes as usize);
-    let bits = p * alone.tower;
-    let heads = p * lists;
-    let held = free + (HELD + PORT * p);
     Lay {
-        storeys: s.storeys,
-        tower: alone.tower,
-        bits,
-        ranks: alone.ranks,
-        heads,
+        bits: p * alone.tower,
+        heads: p * lists,
         stem: nodes - NODE,
-        nodes: s.nodes,
         free,
-        held,
+        held: free + (HELD + PORT * p),
+        ..alone
     }
 }
 
@@ -89,9 +81,7 @@ pub fn bit_words(s: Shape) -> usize
     ensures is { result ≡ bit_words s }
     ensures within { result ≤ 8388608 }
 {
-    let first = seat_of(s, 0);
-    let ports = s.ports as usize;
-    ports * first.tower
+    (s.ports as usize) * seat_of(s, 0).tower
 }
 
 pub fn store_words(s: Shape) -> usize
@@ -99,9 +89,7 @@ pub fn store_words(s: Shape) -> usize
     ensures is { result ≡ store_words s }
     ensures within { result ≤ 8585265 }
 {
-    let first = seat_of(s, 0);
-    let ports = s.ports as usize;
-    first.free + (HELD + PORT * ports)
+    seat_of(s, 0).free + (HELD + PORT * (s.ports as usize))
 }
 
 // Whether there is such a pool, and the slices are long enough for it. The storeys are tested before the words are counted.
@@ -111,9 +99,7 @@ pub fn is_shaped(bits: &[u64], words: &[u32], s: Shape) -> bool
     if !is_numbered(s) {
         return false;
     }
-    let tall = bit_words(s);
-    let long = store_words(s);
-    (tall <= bits.len()) & (long <= words.len())
+    (bit_words(s) <= bits.len()) & (store_words(s) <= words.len())
 }
 
 // .. and a port of it.
@@ -135,6 +121,7 @@ pub fn shape_or_port(bits: &[u64], words: &[u32], s: Shape) -> Refusal
 
 // ---- what clear is handed
 
+// Two functions, as `floor_of` and `ceiling_of` are two definitions of the model.
 pub fn floor_of(limits: &[u32], p: usize) -> u32
     requires { (p < 16) × (2 * p + 2 ≤ length limits.now) }
     ensures { result ≡ floor_of limits.now p }
@@ -161,27 +148,15 @@ pub fn limits_fit(s: Shape, limits: &[u32]) -> bool
     }
     let mut orderly = true;
     let mut sum: u64 = 0;
-    let mut q = 0;
-    while q < ports {
+    for q in 0..ports {
         let floor = floor_of(limits, q);
-        let ceiling = ceiling_of(limits, q);
-        orderly = orderly & (floor <= ceiling);
+        orderly &= floor <= ceiling_of(limits, q);
         sum += floor as u64;
-        q += 1;
     }
     orderly & (sum <= s.nodes as u64)
 }
 
 // ---- the ports' words
-
-fn larger(a: u32, b: u32) -> u32
-    ensures { result ≡ max a b }
-{
-    if a < b {
-        return b;
-    }
-    a
-}
 
 // One port more.
 fn add(words: &[u32], free: usize, p: usize, t: Totals) -> Totals
@@ -191,14 +166,10 @@ fn add(words: &[u32], free: usize, p: usize, t: Totals) -> Totals
     let held = words[free + (HELD + PORT * p)];
     let floor = words[free + (FLOOR + PORT * p)];
     let ceiling = words[free + (CEILING + PORT * p)];
-    let most = larger(held, floor);
-    let used = t.used + held as u64;
-    let claimed = t.claimed + most as u64;
-    let kept = t.kept & ((floor <= ceiling) & (held <= ceiling));
     Totals {
-        used,
-        claimed,
-        kept,
+        used: t.used + held as u64,
+        claimed: t.claimed + held.max(floor) as u64,
+        kept: t.kept & ((floor <= ceiling) & (held <= ceiling)),
     }
 }
 
@@ -212,10 +183,8 @@ pub fn add_up(words: &[u32], free: usize, ports: usize) -> Totals
         claimed: 0,
         kept: true,
     };
-    let mut p = 0;
-    while p < ports {
+    for p in 0..ports {
         t = add(words, free, p, t);
-        p += 1;
     }
     t
 }
@@ -237,10 +206,13 @@ pub fn is_whole(bits: &[u64], words: &[u32], k: Lay, t: Totals) -> bool
     requires { Stands k bits.now words.now }
     ensures { result ≡ whole_by k t bits.now words.now }
 {
-    let top = k.bits;
-    let free = free_link(words, k);
-    let mine = held_count(words, k);
-    whole(t, free, bits[top], mine, k.nodes)
+    whole(
+        t,
+        free_link(words, k),
+        bits[k.bits],
+        held_count(words, k),
+        k.nodes,
+    )
 }
 
 // Whole, and the port holds something.
@@ -265,10 +237,9 @@ pub fn has_room(bits: &[u64], words: &[u32], k: Lay, t: Totals) -> bool
     requires held_in { k.held + 2 < length words.now }
     ensures { result ≡ (whole_by k t bits.now words.now && room_by k t words.now) }
 {
-    let at = k.held;
-    let mine = words[at];
-    let floor = words[at + 1];
-    let ceiling = words[at + 2];
+    let mine = words[k.held];
+    let floor = words[k.held + 1];
+    let ceiling = words[k.held + 2];
     is_whole(bits, words, k, t) & room_left(t, mine, floor, ceiling, k.nodes)
 }
 

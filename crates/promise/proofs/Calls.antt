@@ -1,6 +1,6 @@
 -- What is so of every queue's calls, whatever the words: each refusal is given exactly for its cause, of a request that is not refused the answer is of its
 -- kind, and no element without a tag is let in.
-use Rattle.laws.specs.Prelude.{Answer, Bool, Count, Damaged, Done, Element, Empty, Exactly, Fails, Full, Held, Idle, Ladder, Means, NoTag, Out, Pop, Push, Refusal, Refused, Replace, Request, Unknown, ◌<◌, ◌∙◌, ◌≡◌, ◌≤◌, ◌⊎◌, ap, arith, climb-fine, climb-stop, cond, cond_both, count_number, element_of, eqb, eqb-false, eqb-true, false, false≢true, fine, inl, inr, le-ltb, left_behind, ltb, ltb-false, ltb-true, means-eqb, means-no, number_of, refl, refusal_number, stop, subst, sym, true, true≢false, untagged, ℕ, ⊎_elim}
+use Rattle.laws.specs.Prelude.{Answer, Bool, Damaged, Element, Empty, Exactly, Fails, Full, Idle, Ladder, Means, NoTag, Pop, Push, Refusal, Replace, Request, ◌<◌, ◌∙◌, ◌≡◌, ◌≤◌, ◌⊎◌, ap, arith, climb-fine, climb-stop, cond, cond_both, count_number, element_of, eqb, eqb-false, eqb-true, false, false≢true, fine, inl, inr, le-ltb, left_behind, ltb, ltb-false, ltb-true, means-eqb, means-no, number_of, refl, refusal_number, stop, subst, sym, true, true≢false, untagged, ℕ, ⊎_elim, Result, Ok, Err, None, Some}
 use native.Mathlib.Nat.{pos_of_ne-zero}
 use Rattle.promise.specs.Prelude.{Barred, Clear, Comes, Damage, Each, Fits, Guards, IsOut, IsPush, Kind, Least, Outcome, Queue, Ruling, Table, Told, Untagged, called, carried_out, clear_refusals, cleared, decided-clear, decided-either, decided-exactly, does, each-any, empty, full, grants, guarded, held_count, held_refusals, idles, lacks, lacks_tag, ladder, last_table, left, limits, lower, no-tag, outcome, puts, refusal-told, refusals, rule_at, ruled, ruling, swaps, takes, untagged-means, zero-told}
 
@@ -63,36 +63,36 @@ module _ {W : Type 0} (op : Request → W) (r : Request) (e : Element) where
   -- KIND
   pub ruled-kind : (a : Table) → number_of (ruled op a r e).answer ≡ 0 → Kind r (ruled op a r e).answer
   ruled-kind a =
-      decided-either (λ x. ruling (Refused x) (op Idle)) (λ (g : Ruling W). number_of g.answer ≡ 0 → Kind r g.answer) a (ruling (grants r e) (op r))
+      decided-either (λ x. ruling (Err x) (op Idle)) (λ (g : Ruling W). number_of g.answer ≡ 0 → Kind r g.answer) a (ruling (grants r e) (op r))
       (each-any _ (λ x z. absurd (zero-told x (sym z))) a) (λ c z. grants-kind r e)
 
   -- BARRED
   pub ruled-barred : (a : Table) → Told a → Guards (Untagged r) a → Barred r (ruled op a r e).answer
   ruled-barred a t g =
-      decided-either (λ x. ruling (Refused x) (op Idle)) (λ (g : Ruling W). Barred r g.answer) a (ruling (grants r e) (op r))
+      decided-either (λ x. ruling (Err x) (op Idle)) (λ (g : Ruling W). Barred r g.answer) a (ruling (grants r e) (op r))
       (each-any _ (λ x u z. zero-told x (sym z)) a) (λ c u z. guarded a t g u c)
 
   -- EXACTLY, whatever is made of a ruling: of a refused one what is left behind
-  pub ruled-exactly : {O : Type 0} (answer : O → Answer) (left : Refusal → O) → ((x : Refusal) → answer (left x) ≡ Refused x) → (f : Ruling W → O) → ((g : Ruling W) → answer (f g) ≡ g.answer)
-      → (a : Table) → Told a → Each (λ x. f (ruling (Refused x) (op Idle)) ≡ left x) a → Exactly (λ o. number_of (answer o)) left (f (ruled op a r e)) (ladder a fine)
+  pub ruled-exactly : {O : Type 0} (answer : O → Answer) (left : Refusal → O) → ((x : Refusal) → answer (left x) ≡ Err x) → (f : Ruling W → O) → ((g : Ruling W) → answer (f g) ≡ g.answer)
+      → (a : Table) → Told a → Each (λ x. f (ruling (Err x) (op Idle)) ≡ left x) a → Exactly (λ o. number_of (answer o)) left (f (ruled op a r e)) (ladder a fine)
   ruled-exactly answer left left-says f says a t each =
-      decided-exactly (λ o. number_of (answer o)) left (λ x y z. refusal-told x y (ap number_of (sym (left-says x)) ∙ z ∙ ap number_of (left-says y))) f (λ x. ruling (Refused x) (op Idle)) a
+      decided-exactly (λ o. number_of (answer o)) left (λ x y z. refusal-told x y (ap number_of (sym (left-says x)) ∙ z ∙ ap number_of (left-says y))) f (λ x. ruling (Err x) (op Idle)) a
       (ruling (grants r e) (op r)) fine t each
       (λ c. climb-fine (λ o. number_of (answer o)) left _ (λ x z. zero-told x (sym (grants-zero r e) ∙ ap number_of (sym (says (ruling (grants r e) (op r)))) ∙ z ∙ ap number_of (left-says x))))
 
 -- an element that is given out is the lowest, of a queue that is not empty
-pub is-out : (a : Answer) (e : Element) → a ≡ Out e → IsOut a
+pub is-out : (a : Answer) (e : Element) → a ≡ Ok (Some e) → IsOut a
 is-out a e p = subst IsOut (sym p) tt
 
-pub comes-out : {W : Type 0} {none take : W} {put swap : Element → W} (c h : ℕ) (t e : Element) (r : Request) (g : Ruling W) → Comes none put take swap c h t r g → g.answer ≡ Out e → (t ≡ e) × (0 < h)
-comes-out c h t e r g idles q = absurd (is-out Done e q)
-comes-out c h t e r g (no-tag r' u) q = absurd (is-out (Refused NoTag) e q)
-comes-out c h t e r g (puts x u p) q = absurd (is-out Done e q)
-comes-out c h t e r g (full x u p) q = absurd (is-out (Refused Full) e q)
+pub comes-out : {W : Type 0} {none take : W} {put swap : Element → W} (c h : ℕ) (t e : Element) (r : Request) (g : Ruling W) → Comes none put take swap c h t r g → g.answer ≡ Ok (Some e) → (t ≡ e) × (0 < h)
+comes-out c h t e r g idles q = absurd (is-out (Ok None) e q)
+comes-out c h t e r g (no-tag r' u) q = absurd (is-out (Err NoTag) e q)
+comes-out c h t e r g (puts x u p) q = absurd (is-out (Ok None) e q)
+comes-out c h t e r g (full x u p) q = absurd (is-out (Err Full) e q)
 comes-out c h t e r g (takes p) q = (ap element_of q, p)
-comes-out c h t e r g (empty p) q = absurd (is-out (Refused Empty) e q)
+comes-out c h t e r g (empty p) q = absurd (is-out (Err Empty) e q)
 comes-out c h t e r g (swaps x u p) q = (ap element_of q, p)
-comes-out c h t e r g (lacks x u p) q = absurd (is-out (Refused Empty) e q)
+comes-out c h t e r g (lacks x u p) q = absurd (is-out (Err Empty) e q)
 
 -- ---- the same by the last rungs
 pub last_fits : (r : Request) (h c : ℕ) → Clear (last_table r h c) → Fits r h c
@@ -156,10 +156,10 @@ module _ {S : Type 0} (q : Queue S) where
       go c d true e false f = refused Damaged
       go c d false e b f = refused Damaged
 
-  pub counted-either : (s : S) (P : Count → Type 0) → ((x : Refusal) → P (Unknown x)) → P (Held (q.held s)) → P (held_count q s)
-  counted-either s P refused held = decided-either Unknown P (q.opening s) _ (each-any _ refused (q.opening s)) (λ c. go (q.root_ok s))
+  pub counted-either : (s : S) (P : Result ℕ Refusal → Type 0) → ((x : Refusal) → P (Err x)) → P (Ok (q.held s)) → P (held_count q s)
+  counted-either s P refused held = decided-either Err P (q.opening s) _ (each-any _ refused (q.opening s)) (λ c. go (q.root_ok s))
     where
-      go : (a : Bool) → P (cond a (Held (q.held s)) (Unknown Damaged))
+      go : (a : Bool) → P (cond a (Ok (q.held s)) (Err Damaged))
       go true = held
       go false = refused Damaged
 
@@ -212,7 +212,7 @@ module _ {S : Type 0} {q : Queue S} (t : Tested q) where
           inl (
             no-damage r s o w,
             ruled-exactly q.op r (q.low s) (λ (o : Outcome S). o.answer) (left s) (λ x. refl) (λ g. does q g s) (λ g. refl) (q.late r s) (t.late r s c o)
-                (each-any _ (λ x. ap (outcome (Refused x)) (t.stays s)) (q.late r s)),
+                (each-any _ (λ x. ap (outcome (Err x)) (t.stays s)) (q.late r s)),
           )
       go true o false w = inr (inr ((t.way (rule_at q r s).op s).found w), refl)
       go false o b w = inr (inl ((t.root s).found o), refl)
@@ -231,13 +231,13 @@ module _ {S : Type 0} {q : Queue S} (t : Tested q) where
       decided-exactly said (left s) refusal-told (λ (o : Outcome S). o) (left s) (q.clearing s) _ _ (t.clearing s) (each-any _ (λ x. refl) (q.clearing s)) (λ c.
       climb-fine said (left s) _ (λ x e. zero-told x e))
 
-  pub exactly-held : (s : S) → Exactly count_number Unknown (held_count q s) (held_refusals q s)
+  pub exactly-held : (s : S) → Exactly count_number Err (held_count q s) (held_refusals q s)
   exactly-held s =
-      decided-exactly count_number Unknown refusal-told (λ (c : Count). c) Unknown (q.opening s) _ _ (t.opening s) (each-any _ (λ x. refl) (q.opening s)) (λ c.
-      climb-stop count_number Unknown refusal-told Damaged _ _ _ (go (q.root_ok s) refl))
+      decided-exactly count_number Err refusal-told (λ (c : Result ℕ Refusal). c) Err (q.opening s) _ _ (t.opening s) (each-any _ (λ x. refl) (q.opening s)) (λ c.
+      climb-stop count_number Err refusal-told Damaged _ _ _ (go (q.root_ok s) refl))
     where
       go : (a : Bool) → q.root_ok s ≡ a
-          → ((q.RootDamaged s → ⊥) × Exactly count_number Unknown (cond a (Held (q.held s)) (Unknown Damaged)) fine)
-          ⊎ (q.RootDamaged s × (cond a (Held (q.held s)) (Unknown Damaged) ≡ Unknown Damaged))
-      go true o = inl ((λ d. true≢false (sym o ∙ (t.root s).shown d)), climb-fine count_number Unknown _ (λ x e. zero-told x e))
+          → ((q.RootDamaged s → ⊥) × Exactly count_number Err (cond a (Ok (q.held s)) (Err Damaged)) fine)
+          ⊎ (q.RootDamaged s × (cond a (Ok (q.held s)) (Err Damaged) ≡ Err Damaged))
+      go true o = inl ((λ d. true≢false (sym o ∙ (t.root s).shown d)), climb-fine count_number Err _ (λ x e. zero-told x e))
       go false o = inr ((t.root s).found o, refl)

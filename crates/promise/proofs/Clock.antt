@@ -1,7 +1,7 @@
 -- What is so of every cycle of a machine that works by clock cycles, whatever stands in it. `Ticks`: its tests stand for their causes; then each refusal is given
 -- exactly for its cause and leaves what the table says, and no element without a tag is let in.
 -- All is said of a `queue` that goes as the clock's cycles do, so that a model may keep a definition and outcome records of its own.
-use Rattle.laws.specs.Prelude.{Answer, BadShape, Bool, Count, Damaged, Done, Exactly, Fails, Held, Idle, Means, Refusal, Refused, Unknown, ◌∙◌, ◌≡◌, ap, climb-fine, count_number, false, fine, left_behind, number_of, refl, refusal_number, runs_idle, subst, sym, true, true≢false, ℕ}
+use Rattle.laws.specs.Prelude.{Answer, BadShape, Bool, Damaged, Exactly, Fails, Idle, Means, Refusal, ◌∙◌, ◌≡◌, ap, climb-fine, count_number, false, fine, left_behind, number_of, refl, refusal_number, runs_idle, subst, sym, true, true≢false, ℕ, Result, Ok, Err, None}
 use Rattle.promise.specs.Prelude.{Barred, Clear, Clock, Each, Kind, Outcome, Ruling, Step, Table, Told, Untagged, bars, cleared_to, comes, count_refusals, cycle_left, cycle_refusals, cycled, cycling, decided-clear, decided-either, decided-exactly, each-any, ends, goes, held_in, leaves, left, needs, outcome, refusal-told, ruling, step, stops, wipe_refusals, zero-told}
 
 -- ---- a queue whose cycles are the clock's, and whose tests stand for their causes
@@ -17,7 +17,7 @@ pub record Ticks {C M : Type 0} (k : Clock C M) (queue : C → M → Step Answer
   -- an idle cycle is asked nothing, reads no more than any other, and is done
   pub free : (x : M) → Clear (k.late (k.call Idle) x)
   pub calm : (c : C) (x : M) → k.sound_ok c x ≡ true → k.sound_ok (k.call Idle) x ≡ true
-  pub rest : (x : M) → k.gives (k.call Idle) x ≡ Done
+  pub rest : (x : M) → k.gives (k.call Idle) x ≡ Ok None
   -- what is let in is no refusal
   pub zero : (c : C) (x : M) → number_of (k.gives c x) ≡ 0
   -- a cycle keeps the shape
@@ -35,22 +35,22 @@ module _ {C M : Type 0} {k : Clock C M} {queue : C → M → Step Answer M} (t :
   now-is c x = ap (λ (s : Step Answer M). outcome s.said s.next) (t.same c x)
 
   -- what is so of a refused request run as idle and of one that is let in is so of a cycle that finds shape and words in order
-  pub in_order : (c : C) (x : M) (P : Outcome M → Type 0) → k.shape_ok x ≡ true → k.sound_ok c x ≡ true → Each (λ n. P (outcome (Refused n) (k.moves (k.call Idle) x))) (k.late c x)
+  pub in_order : (c : C) (x : M) (P : Outcome M → Type 0) → k.shape_ok x ≡ true → k.sound_ok c x ≡ true → Each (λ n. P (outcome (Err n) (k.moves (k.call Idle) x))) (k.late c x)
       → (Clear (k.late c x) → P (outcome (k.gives c x) (k.moves c x))) → P (now c x)
   in_order c x P e f refused good =
       subst P (sym (now-is c x))
-      (rw (e, f) (decided-either (λ n. ruling (Refused n) (k.call Idle)) (λ (g : Ruling C). P (goes k g x)) (k.late c x) (ruling (k.gives c x) c) refused good))
+      (rw (e, f) (decided-either (λ n. ruling (Err n) (k.call Idle)) (λ (g : Ruling C). P (goes k g x)) (k.late c x) (ruling (k.gives c x) c) refused good))
 
   -- a cycle of a bad shape, and one that meets damage, leave everything
-  pub misshapen : (c : C) (x : M) → k.shape_ok x ≡ false → queue c x ≡ step (Refused BadShape) x
+  pub misshapen : (c : C) (x : M) → k.shape_ok x ≡ false → queue c x ≡ step (Err BadShape) x
   misshapen c x e = t.same c x ∙ rw e refl
 
-  pub damaged : (c : C) (x : M) → k.shape_ok x ≡ true → k.sound_ok c x ≡ false → queue c x ≡ step (Refused Damaged) x
+  pub damaged : (c : C) (x : M) → k.shape_ok x ≡ true → k.sound_ok c x ≡ false → queue c x ≡ step (Err Damaged) x
   damaged c x e f = t.same c x ∙ rw (e, f) refl
 
   -- what is so of these two, and of a cycle in order, is so of the cycle
   pub either : (c : C) (x : M) (P : Outcome M → Type 0) → P (left x BadShape) → P (left x Damaged)
-      → (k.shape_ok x ≡ true → k.sound_ok c x ≡ true → Each (λ n. P (outcome (Refused n) (k.moves (k.call Idle) x))) (k.late c x))
+      → (k.shape_ok x ≡ true → k.sound_ok c x ≡ true → Each (λ n. P (outcome (Err n) (k.moves (k.call Idle) x))) (k.late c x))
       → (k.shape_ok x ≡ true → k.sound_ok c x ≡ true → Clear (k.late c x) → P (outcome (k.gives c x) (k.moves c x))) → P (now c x)
   either c x P bad torn refused good = go (k.shape_ok x) refl (k.sound_ok c x) refl
     where
@@ -84,17 +84,17 @@ module _ {C M : Type 0} {k : Clock C M} {queue : C → M → Step Answer M} (t :
 
   -- a request that no test refuses is let in
   pub let-in : (c : C) (x : M) → k.shape_ok x ≡ true → k.sound_ok c x ≡ true → Clear (k.late c x) → queue c x ≡ step (k.gives c x) (k.moves c x)
-  let-in c x e f d = t.same c x ∙ rw (e, f) (ap (λ (g : Ruling C). step g.answer (k.moves g.op x)) (decided-clear (λ n. ruling (Refused n) (k.call Idle)) (k.late c x) _ d))
+  let-in c x e f d = t.same c x ∙ rw (e, f) (ap (λ (g : Ruling C). step g.answer (k.moves g.op x)) (decided-clear (λ n. ruling (Err n) (k.call Idle)) (k.late c x) _ d))
 
   -- an idle cycle that finds shape and words in order runs
-  pub idle-runs : (c : C) (x : M) → k.shape_ok x ≡ true → k.sound_ok c x ≡ true → queue (k.call Idle) x ≡ step Done (k.moves (k.call Idle) x)
+  pub idle-runs : (c : C) (x : M) → k.shape_ok x ≡ true → k.sound_ok c x ≡ true → queue (k.call Idle) x ≡ step (Ok None) (k.moves (k.call Idle) x)
   idle-runs c x e f = let-in (k.call Idle) x e (t.calm c x f) (t.free x) ∙ ap (λ (a : Answer). step a (k.moves (k.call Idle) x)) (t.rest x)
 
   -- .. and one that is not refused has run
-  pub idle-ran : (x : M) → number_of (queue (k.call Idle) x).said ≡ 0 → queue (k.call Idle) x ≡ step Done (k.moves (k.call Idle) x)
+  pub idle-ran : (x : M) → number_of (queue (k.call Idle) x).said ≡ 0 → queue (k.call Idle) x ≡ step (Ok None) (k.moves (k.call Idle) x)
   idle-ran x z = go (k.shape_ok x) refl (k.sound_ok (k.call Idle) x) refl
     where
-      go : (a : Bool) → k.shape_ok x ≡ a → (b : Bool) → k.sound_ok (k.call Idle) x ≡ b → queue (k.call Idle) x ≡ step Done (k.moves (k.call Idle) x)
+      go : (a : Bool) → k.shape_ok x ≡ a → (b : Bool) → k.sound_ok (k.call Idle) x ≡ b → queue (k.call Idle) x ≡ step (Ok None) (k.moves (k.call Idle) x)
       go true e true f = idle-runs (k.call Idle) x e f
       go true e false f = absurd (zero-told Damaged (sym z ∙ ap (λ (s : Step Answer M). number_of s.said) (damaged (k.call Idle) x e f)))
       go false e b f = absurd (zero-told BadShape (sym z ∙ ap (λ (s : Step Answer M). number_of s.said) (misshapen (k.call Idle) x e)))
@@ -104,11 +104,11 @@ module _ {C M : Type 0} {k : Clock C M} {queue : C → M → Step Answer M} (t :
     abbrev behind : Refusal → Outcome M
     behind = cycle_left k queue x
 
-    refused_as : k.shape_ok x ≡ true → k.sound_ok c x ≡ true → (n : Refusal) → runs_idle n ≡ true → outcome (Refused n) (k.moves (k.call Idle) x) ≡ behind n
+    refused_as : k.shape_ok x ≡ true → k.sound_ok c x ≡ true → (n : Refusal) → runs_idle n ≡ true → outcome (Err n) (k.moves (k.call Idle) x) ≡ behind n
     unfolding leaves
-    refused_as e f n i = rw i (ap (λ (s : Step Answer M). outcome (Refused n) s.next) (sym (idle-runs c x e f)))
+    refused_as e f n i = rw i (ap (λ (s : Step Answer M). outcome (Err n) s.next) (sym (idle-runs c x e f)))
 
-    each-as : k.shape_ok x ≡ true → k.sound_ok c x ≡ true → (a : Table) → Each (λ n. runs_idle n ≡ true) a → Each (λ n. goes k (ruling (Refused n) (k.call Idle)) x ≡ behind n) a
+    each-as : k.shape_ok x ≡ true → k.sound_ok c x ≡ true → (a : Table) → Each (λ n. runs_idle n ≡ true) a → Each (λ n. goes k (ruling (Err n) (k.call Idle)) x ≡ behind n) a
     each-as e f ends i = tt
     each-as e f (needs n t P l) i = (refused_as e f n i.0, each-as e f l i.1)
     each-as e f (stops n t P l) i = (refused_as e f n i.0, each-as e f l i.1)
@@ -119,7 +119,7 @@ module _ {C M : Type 0} {k : Clock C M} {queue : C → M → Step Answer M} (t :
         subst (λ (o : Outcome M). Exactly said behind o (cycle_refusals k c x)) (sym (now-is c x))
         (decided-exactly said behind refusal-told (λ (o : Outcome M). o) (left x) (needs BadShape (k.shape_ok x) (k.Shape x) (bars Damaged (k.sound_ok c x) (k.Torn c x) ends)) (goes k (comes k c x) x) _
         (t.shape x, λ s. (t.torn c x, λ n. tt)) (refl, (refl, tt)) (λ q.
-        decided-exactly said behind refusal-told (λ g. goes k g x) (λ n. ruling (Refused n) (k.call Idle)) (k.late c x) (ruling (k.gives c x) c) fine (t.late c x q.0 q.1.0)
+        decided-exactly said behind refusal-told (λ g. goes k g x) (λ n. ruling (Err n) (k.call Idle)) (k.late c x) (ruling (k.gives c x) c) fine (t.late c x q.0 q.1.0)
         (each-as q.0 q.1.0 (k.late c x) (t.idles c x)) (λ d. climb-fine said behind _ (λ n z. zero-told n (sym (t.zero c x) ∙ z)))))
 
     pub stands : (n : Refusal) → number_of (queue c x).said ≡ refusal_number n → now c x ≡ behind n
@@ -128,10 +128,10 @@ module _ {C M : Type 0} {k : Clock C M} {queue : C → M → Step Answer M} (t :
   -- clear and held, whatever stands in the machine
   pub exactly-clear : (x : M) → Exactly said (left x) (cleared_to k x) (wipe_refusals k x)
   exactly-clear x =
-      decided-exactly said (left x) refusal-told (λ (o : Outcome M). o) (left x) (needs BadShape (k.shape_ok x) (k.Shape x) ends) (outcome Done (k.wipe x)) fine
+      decided-exactly said (left x) refusal-told (λ (o : Outcome M). o) (left x) (needs BadShape (k.shape_ok x) (k.Shape x) ends) (outcome (Ok None) (k.wipe x)) fine
       (t.shape x, λ s. tt) (refl, tt) (λ q. climb-fine said (left x) _ (λ n z. zero-told n z))
 
-  pub exactly-held : (x : M) → Exactly count_number Unknown (held_in k x) (count_refusals k x)
+  pub exactly-held : (x : M) → Exactly count_number Err (held_in k x) (count_refusals k x)
   exactly-held x =
-      decided-exactly count_number Unknown refusal-told (λ (c : Count). c) Unknown (needs BadShape (k.shape_ok x) (k.Shape x) (bars Damaged (k.root_ok x) (k.RootTorn x) ends)) (Held (k.held x)) fine
-      (t.shape x, λ s. (t.root x, λ n. tt)) (refl, (refl, tt)) (λ q. climb-fine count_number Unknown _ (λ n z. zero-told n z))
+      decided-exactly count_number Err refusal-told (λ (c : Result ℕ Refusal). c) Err (needs BadShape (k.shape_ok x) (k.Shape x) (bars Damaged (k.root_ok x) (k.RootTorn x) ends)) (Ok (k.held x)) fine
+      (t.shape x, λ s. (t.root x, λ n. tt)) (refl, (refl, tt)) (λ q. climb-fine count_number Err _ (λ n z. zero-told n z))

@@ -1,6 +1,6 @@
 -- A drain of any machine is so many idle cycles: none once nothing is pending, no more than the budget, and it stops at damage. First of a queue and what is pending
 -- in its state, where on a good state an idle cycle runs, or jams and leaves everything; then of any clock.
-use Rattle.laws.specs.Prelude.{Answer, BadShape, Bool, Damaged, Done, Exactly, Idle, Refusal, Refused, Request, ◌+◌, ◌<◌, ◌∙◌, ◌≡◌, ◌≤◌, ◌⊎◌, add-zero, ap, arith, climb-by, climb-fine, climb-stop, cond, false, false≢true, fine, inl, inr, is_refused, leb, leb-false, leb-true, left_behind, means-no, not-suc-le-zero, number_of, refl, refusal_number, replicate, subst, suc, sym, true, true≢false, zero, zero-add, ℕ}
+use Rattle.laws.specs.Prelude.{Answer, BadShape, Bool, Damaged, Exactly, Idle, Refusal, Request, ◌+◌, ◌<◌, ◌∙◌, ◌≡◌, ◌≤◌, ◌⊎◌, add-zero, ap, arith, climb-by, climb-fine, climb-stop, cond, false, false≢true, fine, inl, inr, is_refused, leb, leb-false, leb-true, left_behind, means-no, not-suc-le-zero, number_of, refl, refusal_number, replicate, subst, suc, sym, true, true≢false, zero, zero-add, ℕ, Ok, None, Err}
 use Rattle.promise.proofs.Clock.{damaged, idle-runs, shape-stays, Ticks}
 use Rattle.promise.specs.Prelude.{Clock, Close, Drained, Step, Stuck, asking, behind, capped, done, drain_by, drain_refusals, drained, drained_by, drains_by, idled, leaves, leaves-keep, refusal-told, step, stopped, zero-told}
 
@@ -13,9 +13,9 @@ less-not {a} {b} h = go (leb b a) refl
 
 module _ {S : Type 0} (queue : Request → S → Step Answer S) (pending : S → Bool) where
   -- a model's own drain, with an outcome record of its own, is this one where each of its rounds is
-  module _ {D : Type 0} (shown : Drained S → D) (from : ℕ → ℕ → S → D) (spent : (n : ℕ) (s : S) → from 0 n s ≡ shown (drained Done n (pending s) s))
+  module _ {D : Type 0} (shown : Drained S → D) (from : ℕ → ℕ → S → D) (spent : (n : ℕ) (s : S) → from 0 n s ≡ shown (drained (Ok None) n (pending s) s))
       (round : (b n : ℕ) (s : S) → let o = queue Idle s in from (suc b) n s
-      ≡ cond (pending s) (cond (is_refused o.said) (shown (drained o.said n true o.next)) (from b (suc n) o.next)) (shown (drained Done n false s))) where
+      ≡ cond (pending s) (cond (is_refused o.said) (shown (drained o.said n true o.next)) (from b (suc n) o.next)) (shown (drained (Ok None) n false s))) where
     drain-shown : (b n : ℕ) (s : S) → from b n s ≡ shown (drain_by queue pending b n s)
     unfolding drain_by
     drain-shown zero n s = spent n s
@@ -25,13 +25,13 @@ module _ {S : Type 0} (queue : Request → S → Step Answer S) (pending : S →
         o = queue Idle s
 
         go : (p q : Bool) → from b (suc n) o.next ≡ shown (drain_by queue pending b (suc n) o.next)
-            → cond p (cond q (shown (drained o.said n true o.next)) (from b (suc n) o.next)) (shown (drained Done n false s))
-            ≡ shown (cond {A = Drained S} p (cond {A = Drained S} q (drained o.said n true o.next) (drain_by queue pending b (suc n) o.next)) (drained Done n false s))
+            → cond p (cond q (shown (drained o.said n true o.next)) (from b (suc n) o.next)) (shown (drained (Ok None) n false s))
+            ≡ shown (cond {A = Drained S} p (cond {A = Drained S} q (drained o.said n true o.next) (drain_by queue pending b (suc n) o.next)) (drained (Ok None) n false s))
         go true true ih = refl
         go true false ih = ih
         go false q ih = refl
 
-    pub drains-shown : (t : Bool) (b : ℕ) (s : S) → cond t (from b 0 s) (shown (drained (Refused BadShape) 0 false s)) ≡ shown (drains_by queue pending t b s)
+    pub drains-shown : (t : Bool) (b : ℕ) (s : S) → cond t (from b 0 s) (shown (drained (Err BadShape) 0 false s)) ≡ shown (drains_by queue pending t b s)
     drains-shown true b s = drain-shown b 0 s
     drains-shown false b s = refl
 
@@ -71,7 +71,7 @@ module _ {S : Type 0} (queue : Request → S → Step Answer S) (pending : S →
         still (suc j) h = absurd (not-suc-le-zero h)
 
     -- one cycle is run, and the rest after it
-    closes-next : (b n : ℕ) (s : S) (d : Drained S) → pending s ≡ true → (queue Idle s).said ≡ Done → Closes b (suc n) (queue Idle s).next d → Closes (suc b) n s d
+    closes-next : (b n : ℕ) (s : S) (d : Drained S) → pending s ≡ true → (queue Idle s).said ≡ Ok None → Closes b (suc n) (queue Idle s).next d → Closes (suc b) n s d
     unfolding leaves
     closes-next b n s d on ok i =
         record {
@@ -103,33 +103,33 @@ module _ {S : Type 0} (queue : Request → S → Step Answer S) (pending : S →
 
     -- one round: nothing is pending; the idle cycle meets damage; it runs
     module _ (b n : ℕ) (s : S) where
-      round-quiet : pending s ≡ false → drain_by queue pending (suc b) n s ≡ drained Done n false s
+      round-quiet : pending s ≡ false → drain_by queue pending (suc b) n s ≡ drained (Ok None) n false s
       unfolding drain_by
       round-quiet e = rw e
 
-      round-jams : pending s ≡ true → queue Idle s ≡ step (Refused Damaged) s → drain_by queue pending (suc b) n s ≡ drained (Refused Damaged) n true s
+      round-jams : pending s ≡ true → queue Idle s ≡ step (Err Damaged) s → drain_by queue pending (suc b) n s ≡ drained (Err Damaged) n true s
       unfolding drain_by is_refused
       round-jams e x = rw (e, x)
 
-      round-runs : pending s ≡ true → (queue Idle s).said ≡ Done → drain_by queue pending (suc b) n s ≡ drain_by queue pending b (suc n) (queue Idle s).next
+      round-runs : pending s ≡ true → (queue Idle s).said ≡ Ok None → drain_by queue pending (suc b) n s ≡ drain_by queue pending b (suc n) (queue Idle s).next
       unfolding drain_by is_refused
       round-runs e x = rw (e, x)
 
     module _ (Good : S → Type 0) (keep : (s : S) → Good s → Good (queue Idle s).next)
-        (idling : (s : S) → Good s → ((queue Idle s).said ≡ Done) ⊎ ((queue Idle s ≡ step (Refused Damaged) s) × Jam s)) where
+        (idling : (s : S) → Good s → ((queue Idle s).said ≡ Ok None) ⊎ ((queue Idle s ≡ step (Err Damaged) s) × Jam s)) where
       pub closes : (b n : ℕ) (s : S) → Good s → Closes b n s (drain_by queue pending b n s)
       unfolding drain_by
-      closes zero n s g = closes_here zero n s Done (pending s) refl (done refl (λ l. refl))
+      closes zero n s g = closes_here zero n s (Ok None) (pending s) refl (done refl (λ l. refl))
       closes (suc b) n s g = go (pending s) refl (idling s g) (closes b (suc n) (queue Idle s).next (keep s g))
         where
           on : Drained S
           on = drain_by queue pending b (suc n) (queue Idle s).next
 
-          go : (p : Bool) → pending s ≡ p → ((queue Idle s).said ≡ Done) ⊎ ((queue Idle s ≡ step (Refused Damaged) s) × Jam s) → Closes b (suc n) (queue Idle s).next on
+          go : (p : Bool) → pending s ≡ p → ((queue Idle s).said ≡ Ok None) ⊎ ((queue Idle s ≡ step (Err Damaged) s) × Jam s) → Closes b (suc n) (queue Idle s).next on
               → Closes (suc b) n s (drain_by queue pending (suc b) n s)
-          go false q x ih = subst (Closes (suc b) n s) (sym (round-quiet b n s q)) (closes_here (suc b) n s Done false (sym q) (done refl (λ l. absurd (false≢true l))))
+          go false q x ih = subst (Closes (suc b) n s) (sym (round-quiet b n s q)) (closes_here (suc b) n s (Ok None) false (sym q) (done refl (λ l. absurd (false≢true l))))
           go true q (inl x) ih = subst (Closes (suc b) n s) (sym (round-runs b n s q x)) (closes-next b n s on q x ih)
-          go true q (inr x) ih = subst (Closes (suc b) n s) (sym (round-jams b n s q x.0)) (closes_here (suc b) n s (Refused Damaged) true (sym q) (stopped refl refl (stuck-here b s q x.1)))
+          go true q (inr x) ih = subst (Closes (suc b) n s) (sym (round-jams b n s q x.0)) (closes_here (suc b) n s (Err Damaged) true (sym q) (stopped refl refl (stuck-here b s q x.1)))
 
     -- ---- what a whole drain says
     module _ (b : ℕ) (s : S) (d : Drained S) (c : Closes b 0 s d) where
@@ -176,10 +176,10 @@ module _ {S : Type 0} (queue : Request → S → Step Answer S) (pending : S →
           go false e false l = let k : n ≤ d.cycles = less-not (least l) in absurd (omega (arith, leb-false n b e, close-within))
 
       -- a drain that is not refused is done
-      pub close-kind : number_of d.answer ≡ 0 → d.answer ≡ Done
+      pub close-kind : number_of d.answer ≡ 0 → d.answer ≡ Ok None
       close-kind e = go close-ends
         where
-          go : Close queue pending Jam b d.cycles s d → d.answer ≡ Done
+          go : Close queue pending Jam b d.cycles s d → d.answer ≡ Ok None
           go (done a l) = a
           go (stopped a l j) = absurd (zero-told Damaged (sym e ∙ ap number_of a))
 
@@ -192,7 +192,7 @@ module _ {S : Type 0} (queue : Request → S → Step Answer S) (pending : S →
           go (stopped a l j) = j
 
       -- one that is done has met no damage that it could meet: an idle cycle that meets damage is refused
-      pub close-free : ((n : ℕ) → Jam (idled queue n s) → number_of (queue Idle (idled queue n s)).said ≡ 0 → ⊥) → d.answer ≡ Done → (d.left ≡ true → d.cycles ≡ b) → (n : ℕ) → Stuck queue pending Jam b n s → ⊥
+      pub close-free : ((n : ℕ) → Jam (idled queue n s) → number_of (queue Idle (idled queue n s)).said ≡ 0 → ⊥) → d.answer ≡ Ok None → (d.left ≡ true → d.cycles ≡ b) → (n : ℕ) → Stuck queue pending Jam b n s → ⊥
       close-free refused a l n j = go (leb d.cycles n) refl
         where
           go : (t : Bool) → leb d.cycles n ≡ t → ⊥
@@ -216,10 +216,10 @@ module _ {C M : Type 0} {k : Clock C M} {queue : C → M → Step Answer M} (t :
   keeps : (r : Request) (x : M) → k.shape_ok (tick r x).next ≡ k.shape_ok x
   keeps r x = shape-stays t (k.call r) x
 
-  idling : (x : M) → k.shape_ok x ≡ true → ((tick Idle x).said ≡ Done) ⊎ ((tick Idle x ≡ step (Refused Damaged) x) × Jam x)
+  idling : (x : M) → k.shape_ok x ≡ true → ((tick Idle x).said ≡ Ok None) ⊎ ((tick Idle x ≡ step (Err Damaged) x) × Jam x)
   idling x e = go (k.sound_ok (k.call Idle) x) refl
     where
-      go : (b : Bool) → k.sound_ok (k.call Idle) x ≡ b → ((tick Idle x).said ≡ Done) ⊎ ((tick Idle x ≡ step (Refused Damaged) x) × Jam x)
+      go : (b : Bool) → k.sound_ok (k.call Idle) x ≡ b → ((tick Idle x).said ≡ Ok None) ⊎ ((tick Idle x ≡ step (Err Damaged) x) × Jam x)
       go true f = inl (ap (λ (s : Step Answer M). s.said) (idle-runs t (k.call Idle) x e f))
       go false f = inr (damaged t (k.call Idle) x e f, (t.torn (k.call Idle) x).found f)
 
@@ -234,7 +234,7 @@ module _ {C M : Type 0} {k : Clock C M} {queue : C → M → Step Answer M} (t :
     ended e = closes tick pending Jam (λ s. k.shape_ok s ≡ true) (λ s e. keeps Idle s ∙ e) idling b 0 s e
 
     -- refused for the shape, or one that closes
-    pub by_shape : (P : Drained M → Type 0) → P (drained (Refused BadShape) 0 false s) → ((x : Drained M) → k.shape_ok s ≡ true → Closes tick pending Jam b 0 s x → P x) → P d
+    pub by_shape : (P : Drained M → Type 0) → P (drained (Err BadShape) 0 false s) → ((x : Drained M) → k.shape_ok s ≡ true → Closes tick pending Jam b 0 s x → P x) → P d
     by_shape P bad good = go (k.shape_ok s) refl
       where
         go : (t : Bool) → k.shape_ok s ≡ t → P (drains_by tick pending t b s)
@@ -258,8 +258,8 @@ module _ {C M : Type 0} {k : Clock C M} {queue : C → M → Step Answer M} (t :
     drain-ran = by_shape (λ d. (j : ℕ) → j < d.cycles → number_of (tick Idle (idled tick j s)).said ≡ 0) (λ j h. absurd (not-suc-le-zero h)) (λ x e c. close-ran tick pending Jam b s x c)
 
     -- KIND: a drain that is not refused is done
-    pub drain-kind : number_of d.answer ≡ 0 → d.answer ≡ Done
-    drain-kind = by_shape (λ d. number_of d.answer ≡ 0 → d.answer ≡ Done) (λ e. absurd (zero-told BadShape (sym e))) (λ x e c. close-kind tick pending Jam b s x c)
+    pub drain-kind : number_of d.answer ≡ 0 → d.answer ≡ Ok None
+    drain-kind = by_shape (λ d. number_of d.answer ≡ 0 → d.answer ≡ Ok None) (λ e. absurd (zero-told BadShape (sym e))) (λ x e c. close-kind tick pending Jam b s x c)
 
     -- DRAIN-STOPS: the cycle after exactly so many idle cycles is the one that meets damage
     pub drain-stops : number_of d.answer ≡ 2 → Stuck tick pending Jam b d.cycles s

@@ -1,5 +1,5 @@
 -- The plain first-in list, one call after another: in leaving order, and first in first out within a rank, whatever its table refuses.
-use Rattle.laws.specs.Prelude.{All, Answer, Bool, Element, Empty, Idle, List, Pop, Push, Refusal, Refused, Replace, Request, [], ◌++◌, ◌+◌, ◌<◌, ◌∙◌, ◌∷◌, ◌≡◌, ◌≤◌, all_map, ap, arith, blank, cond, dec_lt, eqb, false, le-ltb, length, lt-ltb, ltb, ne_eqb, refl, refusal_number, suc, sym, true, zero, ℕ, ℕ_discrete}
+use Rattle.laws.specs.Prelude.{All, Answer, Bool, Element, Empty, Idle, List, Pop, Push, Refusal, Replace, Request, [], ◌++◌, ◌+◌, ◌<◌, ◌∙◌, ◌∷◌, ◌≡◌, ◌≤◌, all_map, ap, arith, blank, cond, dec_lt, eqb, false, le-ltb, length, lt-ltb, ltb, ne_eqb, refl, refusal_number, suc, sym, true, zero, ℕ, ℕ_discrete, Err}
 use mathlib.Core.List.{append_assoc, append-nil}
 use Rattle.promise.specs.FirstIn.{all_came, all_went, came, FirstOut, if_done, insert, of_rank, plain_by, served, Sorted, times, went}
 use Rattle.promise.specs.Prelude.{Step, Table, always, answers, decided-either, each-any, hit, leaves, step, zero-told}
@@ -125,19 +125,19 @@ if-refused x e = go (refusal_number x) refl
     go zero i = absurd (zero-told x (sym i))
     go (suc n) i = refl
 
-none_in : (q : Request) (x : Refusal) → came q (Refused x) ≡ []
+none_in : (q : Request) (x : Refusal) → came q (Err x) ≡ []
 none_in Idle x = refl
 none_in (Push e) x = if-refused x e
 none_in Pop x = refl
 none_in (Replace e) x = if-refused x e
 
-none_out : (q : Request) (x : Refusal) → went q (Refused x) ≡ []
+none_out : (q : Request) (x : Refusal) → went q (Err x) ≡ []
 none_out Idle x = refl
 none_out (Push e) x = refl
 none_out Pop x = if-refused x blank
 none_out (Replace e) x = if-refused x blank
 
-kept-refused : (q : Request) (l : List Element) (x : Refusal) → Sorted l → Kept q l (step (Refused x) l)
+kept-refused : (q : Request) (l : List Element) (x : Refusal) → Sorted l → Kept q l (step (Err x) l)
 kept-refused q l x s = record { sorted = s; fifo = λ r. rw (none_in q x, none_out q x) (rank-still r l) }
 
 kept-served : (q : Request) (l : List Element) → Sorted l → Kept q l (served q l)
@@ -160,7 +160,7 @@ kept-served (Replace e) (x ∷ l) s =
 module _ (table : Request → List Element → Table) where
   pub plain-kept : (q : Request) (l : List Element) → Sorted l → Kept q l (plain_by table q l)
   unfolding plain_by
-  plain-kept q l s = decided-either (λ x. step (Refused x) l) (Kept q l) (table q l) (served q l) (each-any _ (λ x. kept-refused q l x s) (table q l)) (λ c. kept-served q l s)
+  plain-kept q l s = decided-either (λ x. step (Err x) l) (Kept q l) (table q l) (served q l) (each-any _ (λ x. kept-refused q l x s) (table q l)) (λ c. kept-served q l s)
 
   -- ---- any list of calls
   pub plain-sorted : (qs : List Request) (l : List Element) → Sorted l → Sorted (leaves (plain_by table) qs l)

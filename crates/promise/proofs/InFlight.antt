@@ -1,6 +1,6 @@
 -- What a machine keeps between cycles (`IsClock`) and what it holds in flight (`Bag`, `Lowest`). Then, over any list of cycles and drains from a cleared machine,
 -- nothing is damaged, nothing is lost, what comes out has the lowest rank, a replace is a pop and then a push, and idling brings the machine to rest.
-use Rattle.laws.specs.Prelude.{Answer, Bool, Done, Element, Idle, List, Pop, Push, Refusal, Refused, Replace, Request, [], ◌+◌, ◌<◌, ◌∙◌, ◌∷◌, ◌≡◌, ◌≤◌, ap, arith, false, map, number_of, refl, refusal_number, replicate, subst, suc, sym, true, true≢false, zero, ℕ}
+use Rattle.laws.specs.Prelude.{Answer, Bool, Element, Idle, List, Pop, Push, Refusal, Replace, Request, [], ◌+◌, ◌<◌, ◌∙◌, ◌∷◌, ◌≡◌, ◌≤◌, ap, arith, false, map, number_of, refl, refusal_number, replicate, subst, suc, sym, true, true≢false, zero, ℕ, Ok, None, Err}
 use Rattle.promise.proofs.Clock.{in_order, idle-runs, let-in, no-damage, stands, Ticks}
 use Rattle.promise.proofs.Drains.{drain-ends, drain-left, drain-needed, drain-spent, drain-state, less-not}
 use Rattle.promise.proofs.Forest.{seen-sum}
@@ -62,11 +62,11 @@ module _ {C A S : Type 0} (queue : C → S → Step A S) where
 module _ {C M : Type 0} {k : Clock C M} {queue : C → M → Step Answer M} {Kept : M → Type 0} (is : IsClock k queue Kept) where
   -- ---- one cycle on a kept machine: refused as idle, or let in
   module _ (c : C) (x : M) (kept : Kept x) where
-    pub kept_either : (P : Outcome M → Type 0) → Each (λ n. P (outcome (Refused n) (k.moves (k.call Idle) x))) (k.late c x) → (Clear (k.late c x) → P (outcome (k.gives c x) (k.moves c x)))
+    pub kept_either : (P : Outcome M → Type 0) → Each (λ n. P (outcome (Err n) (k.moves (k.call Idle) x))) (k.late c x) → (Clear (k.late c x) → P (outcome (k.gives c x) (k.moves c x)))
         → P (outcome (queue c x).said (queue c x).next)
     kept_either P = in_order is.ticks c x P (is.shaped x kept) (is.sound c x kept)
 
-    kept_any : (P : Outcome M → Type 0) → ((n : Refusal) → P (outcome (Refused n) (k.moves (k.call Idle) x))) → (Clear (k.late c x) → P (outcome (k.gives c x) (k.moves c x)))
+    kept_any : (P : Outcome M → Type 0) → ((n : Refusal) → P (outcome (Err n) (k.moves (k.call Idle) x))) → (Clear (k.late c x) → P (outcome (k.gives c x) (k.moves c x)))
         → P (outcome (queue c x).said (queue c x).next)
     kept_any P f = kept_either P (each-any _ f (k.late c x))
 
@@ -80,7 +80,7 @@ module _ {C M : Type 0} {k : Clock C M} {queue : C → M → Step Answer M} {Kep
     pub kept-numbers : (P : ℕ → Type 0) → P 0 → Each (λ n. P (refusal_number n)) (k.late c x) → P (number_of (queue c x).said)
     kept-numbers P z each = kept_either (λ o. P (number_of o.answer)) each (λ d. subst P (sym (is.ticks.zero c x)) z)
 
-  pub idle-kept : (x : M) → Kept x → queue (k.call Idle) x ≡ step Done (k.moves (k.call Idle) x)
+  pub idle-kept : (x : M) → Kept x → queue (k.call Idle) x ≡ step (Ok None) (k.moves (k.call Idle) x)
   idle-kept x kept = idle-runs is.ticks (k.call Idle) x (is.shaped x kept) (is.sound (k.call Idle) x kept)
 
   pub idles-kept : (n : ℕ) (x : M) → Kept x → Kept (rested k queue n x)
@@ -105,7 +105,7 @@ module _ {C M : Type 0} {k : Clock C M} {queue : C → M → Step Answer M} {Kep
     pub cycle-sum : (c : C) (x : M) → Kept x → (f : Element → Bool) → stored (queue c x).next f + given (seen c) (queue c x).said f ≡ stored x f + brought (seen c) (queue c x).said f
     cycle-sum c x kept f =
         kept_any c x kept (λ o. stored o.words f + given (seen c) o.answer f ≡ stored x f + brought (seen c) o.answer f)
-        (λ n. ap (λ (i : ℕ). i + given (seen c) (Refused n) f) (idle-stored x kept f) ∙ none-moved (seen c) n (stored x f) f) (λ d. bag.sum c x kept d f)
+        (λ n. ap (λ (i : ℕ). i + given (seen c) (Err n) f) (idle-stored x kept f) ∙ none-moved (seen c) n (stored x f) f) (λ d. bag.sum c x kept d f)
 
     pub idles-sum : (n : ℕ) (x : M) → Kept x → (f : Element → Bool) → stored (rested k queue n x) f ≡ stored x f
     unfolding leaves
@@ -217,11 +217,11 @@ module _ {M : Type 0} {k : Clock Request M} {queue : Request → M → Step Answ
     pop-clear : number_of (queue (Replace e) y).said ≡ 0 → Clear (k.late Pop y)
     pop-clear z = passed (k.call Idle) (ruling (k.gives Pop y) Pop) (k.late Pop y) (ap number_of (sym (came-to Pop) ∙ sym same_answer) ∙ z)
 
-    push-taken : number_of (queue (Replace e) y).said ≡ 0 → (queue (Push e) (queue Pop y).next).said ≡ Done
+    push-taken : number_of (queue (Replace e) y).said ≡ 0 → (queue (Push e) (queue Pop y).next).said ≡ Ok None
     push-taken z =
         let c = pop-clear z in
         let popped = is.keeps Pop y at c in
-        subst (λ (v : M). (queue (Push e) v).said ≡ Done) (sym (ap (λ (s : Step Answer M). s.next) (let-in is.ticks Pop y (is.shaped y at) (is.sound Pop y at) c)))
+        subst (λ (v : M). (queue (Push e) v).said ≡ Ok None) (sym (ap (λ (s : Step Answer M). s.next) (let-in is.ticks Pop y (is.shaped y at) (is.sound Pop y at) c)))
         (ap (λ (s : Step Answer M). s.said) (let-in is.ticks (Push e) (k.moves Pop y) (is.shaped _ popped) (is.sound (Push e) _ popped) (sw.room e y at tag c)) ∙ sw.kinds (Push e) (k.moves Pop y))
 
     pub pop-then-push : PopThenPush held_then stored e y

@@ -1,7 +1,7 @@
 -- THE PROMISES of a queue that does one operation at a time, from what it keeps between calls. `IsQueue` is all that a queue has to show; what follows is the
 -- same for every queue: from a cleared store, over any list of requests, nothing is damaged, it holds exactly what went in and has not come out, what comes out
 -- has the lowest rank, and a replace is a pop and then a push.
-use Rattle.laws.specs.Prelude.{Answer, Bool, Done, Element, Empty, Held, Idle, List, Out, Pop, Push, Refusal, Refused, Replace, Request, Unknown, ◌+◌, ◌<◌, ◌∙◌, ◌≡◌, ◌≤◌, ap, arith, blank, cond, count_number, count_of, element_of, eqb, false, lt-ltb, means-off, number_of, refl, refusal_number, subst, suc, sym, true, untagged, zero, ℕ}
+use Rattle.laws.specs.Prelude.{Answer, Bool, Element, Empty, Idle, List, Pop, Push, Refusal, Replace, Request, ◌+◌, ◌<◌, ◌∙◌, ◌≡◌, ◌≤◌, ap, arith, blank, cond, count_number, count_of, element_of, eqb, false, lt-ltb, means-off, number_of, refl, refusal_number, subst, suc, sym, true, untagged, zero, ℕ, Ok, Err, None, Some}
 use Rattle.promise.proofs.Calls.{barred, grants-zero, no-damage, stands, Tested}
 use Rattle.promise.specs.Prelude.{Clear, Damage, Each, Holds, Least, Outcome, PopThenPush, Queue, Ruling, Step, Table, Tagged, Untagged, all-sum, all_brought, all_given, always, answers, brought, called, cleared, decided, decided-clear, decided-either, does, each-any, given, grants, held_count, hit, last_table, leaves, leaves-keep, left, outcome, rule_at, ruled, ruling, same, stepping, tagged-by, triple, unrefused, untagged-means, zero-told}
 
@@ -33,13 +33,13 @@ none-refused x n = go (refusal_number x) refl
     go zero e = absurd (zero-told x (sym e))
     go (suc i) e = refl
 
-pub none-moved : (r : Request) (x : Refusal) (n : ℕ) (f : Element → Bool) → n + given r (Refused x) f ≡ n + brought r (Refused x) f
+pub none-moved : (r : Request) (x : Refusal) (n : ℕ) (f : Element → Bool) → n + given r (Err x) f ≡ n + brought r (Err x) f
 none-moved Idle x n f = refl
 none-moved (Push y) x n f = omega (arith, none-refused x (hit (f y)))
 none-moved Pop x n f = omega (arith, none-refused x (hit (f blank)))
 none-moved (Replace y) x n f = omega (arith, none-refused x (hit (f y)), none-refused x (hit (f blank)))
 
-pub none-least : (r : Request) (x : Refusal) (held : (Element → Bool) → ℕ) → Least held r (Refused x)
+pub none-least : (r : Request) (x : Refusal) (held : (Element → Bool) → ℕ) → Least held r (Err x)
 none-least Idle x held = tt
 none-least (Push y) x held = tt
 none-least Pop x held = λ z. absurd (zero-told x (sym z))
@@ -60,7 +60,7 @@ module _ {S : Type 0} (calls : Request → S → Outcome S) (stored : S → (Ele
   Sums r s = (f : Element → Bool) → stored (calls r s).words f + given r (calls r s).answer f ≡ stored s f + brought r (calls r s).answer f
 
   module _ (x : Element) (s : S) (behind : Refusal → Outcome S) (stands : (r : Request) (n : Refusal) → number_of (calls r s).answer ≡ refusal_number n → calls r s ≡ behind n)
-      (same_answer : (calls (Replace x) s).answer ≡ (calls Pop s).answer) (taken : number_of (calls (Replace x) s).answer ≡ 0 → (calls (Push x) (calls Pop s).words).answer ≡ Done)
+      (same_answer : (calls (Replace x) s).answer ≡ (calls Pop s).answer) (taken : number_of (calls (Replace x) s).answer ≡ 0 → (calls (Push x) (calls Pop s).words).answer ≡ Ok None)
       (swap : Sums (Replace x) s) (pop : Sums Pop s) (push : Sums (Push x) (calls Pop s).words) where
     abbrev swapped : Answer
     swapped = (calls (Replace x) s).answer
@@ -69,9 +69,9 @@ module _ {S : Type 0} (calls : Request → S → Outcome S) (stored : S → (Ele
     stand h = go swapped refl
       where
         go : (b : Answer) → swapped ≡ b → calls (Replace x) s ≡ calls Pop s
-        go Done e = absurd (h (ap number_of e))
-        go (Out y) e = absurd (h (ap number_of e))
-        go (Refused n) e = stands (Replace x) n (ap number_of e) ∙ sym (stands Pop n (ap number_of (sym same_answer ∙ e)))
+        go (Ok None) e = absurd (h (ap number_of e))
+        go (Ok (Some y)) e = absurd (h (ap number_of e))
+        go (Err n) e = stands (Replace x) n (ap number_of e) ∙ sym (stands Pop n (ap number_of (sym same_answer ∙ e)))
 
     pop-sum : number_of swapped ≡ 0 → (f : Element → Bool) → stored (calls Pop s).words f + hit (f (element_of swapped)) ≡ stored s f
     pop-sum e f =
@@ -96,15 +96,15 @@ module _ {S : Type 0} (calls : Request → S → Outcome S) (stored : S → (Ele
         }
 
 -- a ruling that is not refused has passed the table
-pub passed : {W : Type 0} (none : W) (g : Ruling W) (a : Table) → number_of (decided (λ x. ruling (Refused x) none) a g).answer ≡ 0 → Clear a
+pub passed : {W : Type 0} (none : W) (g : Ruling W) (a : Table) → number_of (decided (λ x. ruling (Err x) none) a g).answer ≡ 0 → Clear a
 passed {W} none g a =
-    decided-either (λ x. ruling (Refused x) none) (λ (g : Ruling W). number_of g.answer ≡ 0 → Clear a) a g (each-any _ (λ x z. absurd (zero-told x (sym z))) a) (λ c z. c)
+    decided-either (λ x. ruling (Err x) none) (λ (g : Ruling W). number_of g.answer ≡ 0 → Clear a) a g (each-any _ (λ x z. absurd (zero-told x (sym z))) a) (λ c z. c)
 
 -- by its tag and its limits alone a replace of an element that has a tag is answered as a pop is
 pub last-alike : {W : Type 0} (op : Request → W) (x e : Element) (h c : ℕ) → untagged x ≡ false → (ruled op (last_table (Replace x) h c) (Replace x) e).answer ≡ (ruled op (last_table Pop h c) Pop e).answer
 last-alike {W} op x e h c t = rw t (go (eqb h 0))
   where
-    go : (b : Bool) → (cond {A = Ruling W} b (ruling (Refused Empty) (op Idle)) (ruling (Out e) (op (Replace x)))).answer ≡ (cond {A = Ruling W} b (ruling (Refused Empty) (op Idle)) (ruling (Out e) (op Pop))).answer
+    go : (b : Bool) → (cond {A = Ruling W} b (ruling (Err Empty) (op Idle)) (ruling (Ok (Some e)) (op (Replace x)))).answer ≡ (cond {A = Ruling W} b (ruling (Err Empty) (op Idle)) (ruling (Ok (Some e)) (op Pop))).answer
     go true = refl
     go false = refl
 
@@ -114,7 +114,7 @@ module _ {S : Type 0} {q : Queue S} {Kept : S → Type 0} (is : IsQueue q Kept) 
     -- refused, a ruling has no work
     pub sound-way : Clear (q.asked r s) → q.way_ok (rule_at q r s).op s ≡ true
     sound-way d =
-        decided-either (λ x. ruling (Refused x) (q.op Idle)) (λ (g : Ruling q.Op). q.way_ok g.op s ≡ true) (q.late r s) (ruling (grants r (q.low s)) (q.op r))
+        decided-either (λ x. ruling (Err x) (q.op Idle)) (λ (g : Ruling q.Op). q.way_ok g.op s ≡ true) (q.late r s) (ruling (grants r (q.low s)) (q.op r))
         (each-any _ (λ x. is.idles s kept) (q.late r s)) (λ c. is.way r s kept d c)
 
     -- what is so of a refused call, and of one that is let in, is so of the call
@@ -126,11 +126,11 @@ module _ {S : Type 0} {q : Queue S} {Kept : S → Type 0} (is : IsQueue q Kept) 
       where
         late : Clear (q.asked r s) → P (does q (rule_at q r s) s)
         late d =
-            decided-either (λ x. ruling (Refused x) (q.op Idle)) (λ (g : Ruling q.Op). P (does q g s)) (q.late r s) (ruling (grants r (q.low s)) (q.op r))
+            decided-either (λ x. ruling (Err x) (q.op Idle)) (λ (g : Ruling q.Op). P (does q g s)) (q.late r s) (ruling (grants r (q.low s)) (q.op r))
             (stay (q.late r s) last) (λ c. done d c)
           where
-            stay : (a : Table) → Each (λ x. P (left s x)) a → Each (λ x. P (does q (ruling (Refused x) (q.op Idle)) s)) a
-            stay a e = subst (λ (v : S). Each (λ x. P (outcome (Refused x) v)) a) (sym (is.tested.stays s)) e
+            stay : (a : Table) → Each (λ x. P (left s x)) a → Each (λ x. P (does q (ruling (Err x) (q.op Idle)) s)) a
+            stay a e = subst (λ (v : S). Each (λ x. P (outcome (Err x) v)) a) (sym (is.tested.stays s)) e
 
     -- the same of any refusal
     kept_any : (P : Outcome S → Type 0) → ((x : Refusal) → P (left s x)) → (Clear (q.asked r s) → Clear (q.late r s) → P (outcome (grants r (q.low s)) (q.run (q.op r) s))) → P (called q r s)
@@ -140,7 +140,7 @@ module _ {S : Type 0} {q : Queue S} {Kept : S → Type 0} (is : IsQueue q Kept) 
     pub let-in : Clear (q.asked r s) → Clear (q.late r s) → called q r s ≡ outcome (grants r (q.low s)) (q.run (q.op r) s)
     let-in d c =
         decided-clear (left s) (q.opening s) _ (is.opens s kept) ∙ decided-clear (left s) (q.asked r s) _ d
-        ∙ rw (is.root s kept, sound-way d) (ap (λ (g : Ruling q.Op). does q g s) (decided-clear (λ x. ruling (Refused x) (q.op Idle)) (q.late r s) _ c))
+        ∙ rw (is.root s kept, sound-way d) (ap (λ (g : Ruling q.Op). does q g s) (decided-clear (λ x. ruling (Err x) (q.op Idle)) (q.late r s) _ c))
 
     -- .. and one that is asked nothing before the words are read: what its ruling says
     pub kept-called : Clear (q.asked r s) → called q r s ≡ does q (rule_at q r s) s
@@ -166,7 +166,7 @@ module _ {S : Type 0} {q : Queue S} {Kept : S → Type 0} (is : IsQueue q Kept) 
   -- held
   pub kept-held : (s : S) → Kept s → (count_number (held_count q s) ≡ 0) × (count_of (held_count q s) ≡ q.stored s always)
   kept-held s kept =
-      let e : held_count q s ≡ Held (q.held s) = decided-clear Unknown (q.opening s) _ (is.opens s kept) ∙ rw (is.root s kept) in
+      let e : held_count q s ≡ Ok (q.held s) = decided-clear Err (q.opening s) _ (is.opens s kept) ∙ rw (is.root s kept) in
       (ap count_number e, ap count_of e ∙ is.counts s kept)
 
   -- ---- lists of requests
@@ -210,11 +210,11 @@ module _ {S : Type 0} {q : Queue S} {Kept : S → Type 0} (is : IsQueue q Kept) 
         passed (q.op Idle) (ruling (grants Pop (q.low s)) (q.op Pop)) (q.late Pop s)
         (ap number_of (sym (ap (λ (o : Outcome S). o.answer) (kept-called Pop s kept (sw.pops s))) ∙ sym same_answer) ∙ e)
 
-    push-taken : number_of a ≡ 0 → (called q (Push x) vs).answer ≡ Done
+    push-taken : number_of a ≡ 0 → (called q (Push x) vs).answer ≡ Ok None
     push-taken e =
         let c = pop-clear e in
         let r = sw.room x s kept tag first c in
-        subst (λ (v : S). (called q (Push x) v).answer ≡ Done) (sym (ap (λ (o : Outcome S). o.words) (let-in Pop s kept (sw.pops s) c)))
+        subst (λ (v : S). (called q (Push x) v).answer ≡ Ok None) (sym (ap (λ (o : Outcome S). o.words) (let-in Pop s kept (sw.pops s) c)))
         (ap (λ (o : Outcome S). o.answer) (let-in (Push x) (q.run (q.op Pop) s) (is.keeps Pop s kept (sw.pops s) c) r.0 r.1))
 
     pub kept-replaces : PopThenPush (called q) q.stored x s

@@ -1,7 +1,7 @@
 -- The calls of a queue that does one operation at a time, once for every such queue: what it has to bring (`Queue`), and from that push, pop and replace
 -- (`called`), clear (`cleared`), held (`held_count`), their tables of refusals, and what is said of a list of requests.
 use Rattle.std.specs.Prelude.{◌+◌, ◌<◌, ◌∷◌, ◌≡◌, ◌≤◌, ◌⊎◌}
-use Rattle.laws.specs.Prelude.{Answer, Bool, Count, Damaged, Done, Element, Empty, Full, Held, Idle, Ladder, NoTag, Out, Pop, Push, Refusal, Refused, Replace, Request, Unknown, [], cond, eqb, false, fine, ltb, number_of, stop, untagged, ℕ}
+use Rattle.laws.specs.Prelude.{Answer, Bool, Damaged, Element, Empty, Full, Idle, Ladder, NoTag, Pop, Push, Refusal, Replace, Request, [], cond, eqb, false, fine, ltb, number_of, stop, untagged, ℕ, Result, Ok, Err, None, Some}
 use Rattle.promise.specs.Queue.{leaves, step, Step}
 use Rattle.promise.specs.Refused.{Untagged}
 use Rattle.promise.specs.Served.{hit}
@@ -17,10 +17,10 @@ ruling a o = record { answer = a; op = o }
 
 -- the answer of a request that is not refused, where e is the lowest held
 abbrev pub grants : Request → Element → Answer
-grants Idle e = Done
-grants (Push x) e = Done
-grants Pop e = Out e
-grants (Replace x) e = Out e
+grants Idle e = Ok None
+grants (Push x) e = Ok None
+grants Pop e = Ok (Some e)
+grants (Replace x) e = Ok (Some e)
 
 -- ---- the last rungs of most tables: 7, then 5 or 6
 -- "Push and replace with tag 0 are to be refused with a new number 7" (02 [1])
@@ -49,20 +49,20 @@ Fits (Replace x) h c = 0 < h
 
 -- what a request comes to by a table
 abbrev pub ruled : {W : Type 0} → (Request → W) → Table → Request → Element → Ruling W
-ruled op a r e = decided (λ x. ruling (Refused x) (op Idle)) a (ruling (grants r e) (op r))
+ruled op a r e = decided (λ x. ruling (Err x) (op Idle)) a (ruling (grants r e) (op r))
 
 -- what a request comes to, in the law's words, where c is the capacity, h are held and e is the lowest, and these are the four kinds of work: "Push puts at the
 -- root, pop takes there". Replace: "an empty queue refuses replace with 6 .., and otherwise the lowest held element is answered, even if the new rank is lower,
 -- and the new one is swapped in by the same swap rule": x's rank is not looked at. "Push and replace with tag 0 are to be refused", whatever is held
 pub data Comes {W : Type 0} (none : W) (put : Element → W) (take : W) (swap : Element → W) (c h : ℕ) (e : Element) : Request → Ruling W → Type 0 where
-  idles : Comes none put take swap c h e Idle (ruling Done none)
-  no-tag : (r : Request) → Untagged r → Comes none put take swap c h e r (ruling (Refused NoTag) none)
-  puts : (x : Element) → (Untagged (Push x) → ⊥) → h < c → Comes none put take swap c h e (Push x) (ruling Done (put x))
-  full : (x : Element) → (Untagged (Push x) → ⊥) → c ≤ h → Comes none put take swap c h e (Push x) (ruling (Refused Full) none)
-  takes : 0 < h → Comes none put take swap c h e Pop (ruling (Out e) take)
-  empty : h ≡ 0 → Comes none put take swap c h e Pop (ruling (Refused Empty) none)
-  swaps : (x : Element) → (Untagged (Replace x) → ⊥) → 0 < h → Comes none put take swap c h e (Replace x) (ruling (Out e) (swap x))
-  lacks : (x : Element) → (Untagged (Replace x) → ⊥) → h ≡ 0 → Comes none put take swap c h e (Replace x) (ruling (Refused Empty) none)
+  idles : Comes none put take swap c h e Idle (ruling (Ok None) none)
+  no-tag : (r : Request) → Untagged r → Comes none put take swap c h e r (ruling (Err NoTag) none)
+  puts : (x : Element) → (Untagged (Push x) → ⊥) → h < c → Comes none put take swap c h e (Push x) (ruling (Ok None) (put x))
+  full : (x : Element) → (Untagged (Push x) → ⊥) → c ≤ h → Comes none put take swap c h e (Push x) (ruling (Err Full) none)
+  takes : 0 < h → Comes none put take swap c h e Pop (ruling (Ok (Some e)) take)
+  empty : h ≡ 0 → Comes none put take swap c h e Pop (ruling (Err Empty) none)
+  swaps : (x : Element) → (Untagged (Replace x) → ⊥) → 0 < h → Comes none put take swap c h e (Replace x) (ruling (Ok (Some e)) (swap x))
+  lacks : (x : Element) → (Untagged (Replace x) → ⊥) → h ≡ 0 → Comes none put take swap c h e (Replace x) (ruling (Err Empty) none)
 
 -- ---- what a call answers, and the words afterwards
 pub record Outcome (S : Type 0) : Type 0 where
@@ -74,7 +74,7 @@ outcome a s = record { answer = a; words = s }
 
 -- a refused call leaves every word
 abbrev pub left : {S : Type 0} → S → Refusal → Outcome S
-left s x = outcome (Refused x) s
+left s x = outcome (Err x) s
 
 -- ---- what a queue brings. S is what it is lent
 pub record Queue (S : Type 0) : Type 1 where
@@ -119,10 +119,10 @@ module _ {S : Type 0} (q : Queue S) where
   called r s = decided (left s) (q.opening s) (decided (left s) (q.asked r s) (cond (q.root_ok s) (carried_out (rule_at r s) s) (left s Damaged)))
 
   abbrev pub cleared : S → Outcome S
-  cleared s = decided (left s) (q.clearing s) (outcome Done (q.wipe s))
+  cleared s = decided (left s) (q.clearing s) (outcome (Ok None) (q.wipe s))
 
-  abbrev pub held_count : S → Count
-  held_count s = decided Unknown (q.opening s) (cond (q.root_ok s) (Held (q.held s)) (Unknown Damaged))
+  abbrev pub held_count : S → Result ℕ Refusal
+  held_count s = decided Err (q.opening s) (cond (q.root_ok s) (Ok (q.held s)) (Err Damaged))
 
   -- ---- the tables of refusals
   -- the root, or the way of what the request comes to
@@ -152,9 +152,9 @@ module _ {S : Type 0} (calls : Request → S → Outcome S) (stored : S → (Ele
     -- .. and refused it leaves what the refused pop leaves
     pub refused : (number_of (calls (Replace x) s).answer ≡ 0 → ⊥) → calls (Replace x) s ≡ calls Pop s
     -- not refused, the push on what the pop leaves is taken ..
-    pub taken : number_of (calls (Replace x) s).answer ≡ 0 → (calls (Push x) (calls Pop s).words).answer ≡ Done
+    pub taken : number_of (calls (Replace x) s).answer ≡ 0 → (calls (Push x) (calls Pop s).words).answer ≡ Ok None
     -- .. and of every kind of element as many are stored as after the pop and the push
     pub stores : number_of (calls (Replace x) s).answer ≡ 0 → (f : Element → Bool)
         → stored (calls (Replace x) s).words f ≡ stored (leaves (stepping calls) (Pop ∷ Push x ∷ []) s) f
     -- that is what was stored, less what is answered, and the newcomer
-    pub swapped : (e : Element) → (calls (Replace x) s).answer ≡ Out e → (f : Element → Bool) → stored (calls (Replace x) s).words f + hit (f e) ≡ stored s f + hit (f x)
+    pub swapped : (e : Element) → (calls (Replace x) s).answer ≡ Ok (Some e) → (f : Element → Bool) → stored (calls (Replace x) s).words f + hit (f e) ≡ stored s f + hit (f x)

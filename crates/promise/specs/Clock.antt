@@ -1,6 +1,6 @@
 -- The calls of a machine that works by clock cycles, once for every such machine: what it has to bring (`Clock`), and from that a cycle (`cycled`), clear and
 -- held, their tables of refusals, and what a refused cycle leaves.
-use Rattle.laws.specs.Prelude.{Answer, BadShape, Bool, Count, Damaged, Done, Held, Idle, Ladder, Refusal, Refused, Request, Unknown, cond, fine, rung, runs_idle, stop, ℕ}
+use Rattle.laws.specs.Prelude.{Answer, BadShape, Bool, Damaged, Idle, Ladder, Refusal, Request, cond, fine, rung, runs_idle, stop, ℕ, Result, Ok, Err, None}
 use Rattle.promise.specs.Calls.{left, Outcome, outcome, Ruling, ruling}
 use Rattle.promise.specs.Drains.{Drained, drains_by, idled}
 use Rattle.promise.specs.Queue.{step, Step}
@@ -51,7 +51,7 @@ asked c = sees (λ r. r) c
 module _ {C M : Type 0} (k : Clock C M) where
   -- what a request comes to: refused it is an idle cycle
   abbrev pub comes : C → M → Ruling C
-  comes c x = decided (λ n. ruling (Refused n) (k.call Idle)) (k.late c x) (ruling (k.gives c x) c)
+  comes c x = decided (λ n. ruling (Err n) (k.call Idle)) (k.late c x) (ruling (k.gives c x) c)
 
   abbrev pub goes : Ruling C → M → Outcome M
   goes g x = outcome g.answer (k.moves g.op x)
@@ -63,10 +63,10 @@ module _ {C M : Type 0} (k : Clock C M) where
   cycling c x = step (cycled c x).answer (cycled c x).words
 
   abbrev pub cleared_to : M → Outcome M
-  cleared_to x = cond (k.shape_ok x) (outcome Done (k.wipe x)) (left x BadShape)
+  cleared_to x = cond (k.shape_ok x) (outcome (Ok None) (k.wipe x)) (left x BadShape)
 
-  abbrev pub held_in : M → Count
-  held_in x = cond (k.shape_ok x) (cond (k.root_ok x) (Held (k.held x)) (Unknown Damaged)) (Unknown BadShape)
+  abbrev pub held_in : M → Result ℕ Refusal
+  held_in x = cond (k.shape_ok x) (cond (k.root_ok x) (Ok (k.held x)) (Err Damaged)) (Err BadShape)
 
   -- ---- the tables of refusals
   abbrev pub cycle_refusals : C → M → Ladder Refusal
@@ -94,7 +94,7 @@ module _ {C M : Type 0} (k : Clock C M) where
 
     -- what a refused cycle leaves
     abbrev pub cycle_left : M → Refusal → Outcome M
-    cycle_left x n = outcome (Refused n) (cond (runs_idle n) (rested 1 x) x)
+    cycle_left x n = outcome (Err n) (cond (runs_idle n) (rested 1 x) x)
 
     -- cycles and drains
     abbrev pub calls : Call C → M → Step Answer M

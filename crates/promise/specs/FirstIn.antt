@@ -1,7 +1,7 @@
 -- The plain first-in list, one list in leaving order: "Lower rank leaves first", and of equal ranks the one that came first. What it refuses is a table of its
 -- own, so that it is said once for every queue that answers as such a list does.
 use Rattle.std.specs.Prelude.{◌++◌, ◌+◌, ◌∷◌, ◌≡◌, ◌≤◌}
-use Rattle.laws.specs.Prelude.{All, Answer, Bool, Done, Element, Empty, Idle, List, Out, Pop, Push, Refused, Replace, Request, [], cond, element_of, eqb, ltb, number_of, suc, zero, ℕ}
+use Rattle.laws.specs.Prelude.{All, Answer, Bool, Element, Empty, Idle, List, Pop, Push, Replace, Request, [], cond, element_of, eqb, ltb, number_of, suc, zero, ℕ, Ok, None, Some, Err}
 use Rattle.promise.specs.Queue.{step, Step}
 use Rattle.promise.specs.Served.{hit}
 use Rattle.promise.specs.Table.{decided, Table}
@@ -28,15 +28,15 @@ of_rank r (x ∷ xs) = cond (eqb x.rank.0 r) (x ∷ of_rank r xs) (of_rank r xs)
 
 -- ---- the list as a queue: what its table does not refuse is done. Nothing can be given of an empty list
 abbrev pub served : Request → List Element → Step Answer (List Element)
-served Idle l = step Done l
-served (Push x) l = step Done (insert x l)
-served Pop [] = step (Refused Empty) []
-served Pop (y ∷ l) = step (Out y) l
-served (Replace x) [] = step (Refused Empty) []
-served (Replace x) (y ∷ l) = step (Out y) (insert x l)
+served Idle l = step (Ok None) l
+served (Push x) l = step (Ok None) (insert x l)
+served Pop [] = step (Err Empty) []
+served Pop (y ∷ l) = step (Ok (Some y)) l
+served (Replace x) [] = step (Err Empty) []
+served (Replace x) (y ∷ l) = step (Ok (Some y)) (insert x l)
 
 unfoldable pub plain_by : (Request → List Element → Table) → Request → List Element → Step Answer (List Element)
-plain_by table q l = decided (λ x. step (Refused x) l) (table q l) (served q l)
+plain_by table q l = decided (λ x. step (Err x) l) (table q l) (served q l)
 
 -- ---- what goes in and out, in its order, by the number of an answer: 0 is no refusal
 abbrev pub if_done : ℕ → Element → List Element

@@ -1,5 +1,5 @@
 -- The same with every length 0: "a length in bytes" travels with its strip and decides nothing (02 [9]).
-use Rattle.laws.specs.Prelude.{Answer, Done, Element, Idle, Out, Pop, Push, Refused, Replace, Request, element}
+use Rattle.laws.specs.Prelude.{Answer, Element, Idle, Pop, Push, Replace, Request, element, Ok, None, Some, Err}
 
 -- rank and tag of an element
 abbrev pub short : Element → Element
@@ -13,6 +13,6 @@ short_request Pop = Pop
 short_request (Replace x) = Replace (short x)
 
 abbrev pub short_answer : Answer → Answer
-short_answer Done = Done
-short_answer (Out e) = Out (short e)
-short_answer (Refused r) = Refused r
+short_answer (Ok None) = Ok None
+short_answer (Ok (Some e)) = Ok (Some (short e))
+short_answer (Err r) = Err r

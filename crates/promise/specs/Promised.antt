@@ -1,7 +1,7 @@
 -- All that is promised of a queue, as two records: of its calls whatever the words (`Answers`), and from a cleared store over any list of requests
 -- (`Promised`). A queue that shows `Tested` and `IsQueue` has both (`promise/proofs/Promised.antt`).
 use Rattle.std.specs.Prelude.{◌+◌, ◌≡◌, ◌⊎◌}
-use Rattle.laws.specs.Prelude.{Answer, Element, Exactly, List, Replace, Request, Unknown, count_number, count_of, number_of, refusal_number, ℕ}
+use Rattle.laws.specs.Prelude.{Answer, Element, Exactly, List, Replace, Request, count_number, count_of, number_of, refusal_number, ℕ, Err}
 use Rattle.promise.specs.Calls.{called, cleared, clear_refusals, Damage, held_count, held_refusals, left, Outcome, PopThenPush, Queue, refusals, stepping}
 use Rattle.promise.specs.Queue.{answers, leaves}
 use Rattle.promise.specs.Refused.{Untagged}
@@ -21,7 +21,7 @@ module _ {S : Type 0} (q : Queue S) where
   pub record Answers : Type 0 where
     pub exactly : (r : Request) (s : S) → Exactly (λ (o : Outcome S). number_of o.answer) (left s) (called q r s) (refusals q r s)
     pub exactly-clear : (s : S) → Exactly (λ (o : Outcome S). number_of o.answer) (left s) (cleared q s) (clear_refusals q s)
-    pub exactly-held : (s : S) → Exactly count_number Unknown (held_count q s) (held_refusals q s)
+    pub exactly-held : (s : S) → Exactly count_number Err (held_count q s) (held_refusals q s)
     pub kind : (r : Request) (s : S) → number_of (called q r s).answer ≡ 0 → Kind r (called q r s).answer
     pub barred : (r : Request) (s : S) → Barred r (called q r s).answer
 

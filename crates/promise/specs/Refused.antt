@@ -1,7 +1,7 @@
 -- What the tables of refusals share: 01's numbers tell the refusals apart; 7, and 5 and 6. A table is a ladder, `Exactly` of `laws` says that a call
 -- goes by it: by the number that it says, and with all that is left behind.
 use Rattle.std.specs.Prelude.{◌∷◌, ◌≡◌}
-use Rattle.laws.specs.Prelude.{Answer, BadPort, BadRank, BadShape, Bool, Damaged, Done, Element, Empty, Fails, Full, Idle, Ladder, Means, NoHeap, NoTag, Out, Pop, Push, Refusal, Refused, Replace, Request, TooSoon, Zeros, [], ap, arith, asks, fails-true, false, false≢true, get_or, has_run, is_blank, means-eqb, not, number_of, pred, refl, refusal_number, stop, sym, true, untagged, ℕ, ◌∙◌}
+use Rattle.laws.specs.Prelude.{Answer, BadPort, BadRank, BadShape, Bool, Damaged, Element, Empty, Fails, Full, Idle, Ladder, Means, NoHeap, NoTag, Pop, Push, Refusal, Replace, Request, TooSoon, Zeros, [], ap, arith, asks, fails-true, false, false≢true, get_or, has_run, is_blank, means-eqb, not, number_of, pred, refl, refusal_number, stop, sym, true, untagged, ℕ, ◌∙◌, Ok, None, Some, Err}
 use Rattle.strip.proofs.Words.{blank-holds, blank-says}
 
 -- the refusal of a number; 9 to 11 are those of ranks from weights, and no queue's
@@ -36,9 +36,9 @@ zero-told NoHeap e = omega arith
 
 -- a cycle that is not refused has run
 pub zero-ran : (a : Answer) → number_of a ≡ 0 → has_run a ≡ true
-zero-ran Done e = refl
-zero-ran (Out x) e = refl
-zero-ran (Refused n) e = absurd (zero-told n (sym e))
+zero-ran (Ok None) e = refl
+zero-ran (Ok (Some x)) e = refl
+zero-ran (Err n) e = absurd (zero-told n (sym e))
 
 -- an operation is asked for
 abbrev pub Asks : Request → Type 0

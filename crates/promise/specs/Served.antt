@@ -1,6 +1,6 @@
 -- What a request brings in and gives out, in 01's numbers; what a queue then holds; which kind of answer it is, and that it has the lowest rank.
 use Rattle.std.specs.Prelude.{◌&&◌, ◌+◌, ◌∷◌, ◌≡◌}
-use Rattle.laws.specs.Prelude.{Answer, Bool, Done, Element, Idle, List, Out, Pop, Push, Refused, Replace, Request, [], arith, element_of, eqb, false, ltb, number_of, rank_of, refl, suc, sym, true, zero, ℕ, ◌∙◌}
+use Rattle.laws.specs.Prelude.{Answer, Bool, Element, Idle, List, Pop, Push, Replace, Request, [], arith, element_of, eqb, false, ltb, number_of, rank_of, refl, suc, sym, true, zero, ℕ, ◌∙◌, Ok, None, Some, Err}
 use Rattle.promise.specs.Queue.{answers, leaves, Step}
 
 -- ---- tests on elements. What a queue holds is said by how many of its elements pass, for every test
@@ -70,13 +70,13 @@ module _ {S : Type 0} (queue : Request → S → Step Answer S) (Kept : S → Ty
 -- ---- the answer of a request that is not refused
 -- KIND: a pop and a replace answer an element, a push and an idle cycle that they are done
 abbrev pub IsOut : Answer → Type 0
-IsOut Done = ⊥
-IsOut (Out e) = Unit {0}
-IsOut (Refused r) = ⊥
+IsOut (Ok None) = ⊥
+IsOut (Ok (Some e)) = Unit {0}
+IsOut (Err r) = ⊥
 
 abbrev pub Kind : Request → Answer → Type 0
-Kind Idle a = a ≡ Done
-Kind (Push x) a = a ≡ Done
+Kind Idle a = a ≡ Ok None
+Kind (Push x) a = a ≡ Ok None
 Kind Pop a = IsOut a
 Kind (Replace x) a = IsOut a
 

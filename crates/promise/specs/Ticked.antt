@@ -2,7 +2,7 @@
 -- machine over any list of cycles (`Running`), or of cycles and drains. A machine that shows `Ticks`, `IsClock` and `Bag` has both
 -- (`promise/proofs/Ticked.antt`).
 use Rattle.std.specs.Prelude.{◌≡◌, ◌≤◌, ◌⊎◌}
-use Rattle.laws.specs.Prelude.{Bool, Element, Exactly, Idle, List, Request, Unknown, count_number, false, map, number_of, ℕ}
+use Rattle.laws.specs.Prelude.{Bool, Element, Exactly, Idle, List, Request, count_number, false, map, number_of, ℕ, Err}
 use Rattle.promise.specs.Calls.{left, Outcome}
 use Rattle.promise.specs.Clock.{asking, Call, calls, cleared_to, Clock, count_refusals, cycled, cycle_left, cycle_refusals, cycling, drained_by, held_in, rested, sees, wipe_refusals}
 use Rattle.promise.specs.Drains.{behind, Drained, drain_refusals}
@@ -18,7 +18,7 @@ module _ {C M : Type 0} (k : Clock C M) where
     pub exactly-drain : (b : ℕ) (x : M) → let d = drained_by k (cycling k) b x in
         Exactly (λ (d : Drained M). number_of d.answer) (behind (asking k (cycling k)) d.cycles x) d (drain_refusals (asking k (cycling k)) k.pending (k.Torn (k.call Idle)) k.Shape b x)
     pub exactly-clear : (x : M) → Exactly (λ (o : Outcome M). number_of o.answer) (left x) (cleared_to k x) (wipe_refusals k x)
-    pub exactly-held : (x : M) → Exactly count_number Unknown (held_in k x) (count_refusals k x)
+    pub exactly-held : (x : M) → Exactly count_number Err (held_in k x) (count_refusals k x)
     pub barred : (c : C) (x : M) → Barred (k.wants c) (cycled k c x).answer
 
   -- after a list of cycles

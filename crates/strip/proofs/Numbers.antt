@@ -4,8 +4,7 @@ use mathlib.Core.Path.{◌≡◌, refl}
 use lib.Dec.{eqb}
 use Rattle.strip.specs.Answers.{blank, count_of, element, key, length_of, precedes, rank_of, tag_of, untagged}
 use Rattle.strip.specs.Words.{element_in, element_numbers, write_element}
-use Rattle.strip.specs.declared.Answer.TheVariants.{Done, Refused}
-use Rattle.strip.specs.declared.Count.TheVariants.{Unknown}
+use Rattle.std.specs.Prelude.{Ok, None, Err}
 use Rattle.strip.specs.declared.Element.{Element}
 use Rattle.strip.specs.declared.Refusal.{Refusal}
 
@@ -20,7 +19,7 @@ unfolding untagged
 by-tag e = refl
 
 -- "A refusal, idle cycle or push answers rank 0, tag 0"; "In every queue a refused held answers 0"
-pub nothing-given : (r : Refusal) → (rank_of (Refused r) ≡ 0) × (tag_of (Refused r) ≡ 0) × (length_of (Refused r) ≡ 0) × (rank_of Done ≡ 0) × (tag_of Done ≡ 0) × (length_of Done ≡ 0) × (count_of (Unknown r) ≡ 0)
+pub nothing-given : (r : Refusal) → (rank_of (Err r) ≡ 0) × (tag_of (Err r) ≡ 0) × (length_of (Err r) ≡ 0) × (rank_of (Ok None) ≡ 0) × (tag_of (Ok None) ≡ 0) × (length_of (Ok None) ≡ 0) × (count_of (Err r) ≡ 0)
 unfolding blank
 nothing-given r = (refl, refl, refl, refl, refl, refl, refl)
 

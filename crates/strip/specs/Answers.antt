@@ -1,12 +1,8 @@
 -- The paper's number, rank, tag and length of each answer.
-use Rattle.std.specs.Prelude.{ℕ, ◌*◌, ◌+◌, Bool, true, false, ◌&&◌, ◌||◌, eqb, ltb}
+use Rattle.std.specs.Prelude.{ℕ, ◌*◌, ◌+◌, Bool, true, false, ◌&&◌, ◌||◌, eqb, ltb, Option, None, Some, Result, Ok, Err}
 use Rattle.strip.specs.declared.Element.{Element}
 use Rattle.strip.specs.declared.Refusal.{Refusal}
 use Rattle.strip.specs.declared.Refusal.TheVariants.{BadShape, Damaged, TooSoon, BadRank, Full, Empty, NoTag, BadPort, NoHeap}
-use Rattle.strip.specs.declared.Answer.{Answer}
-use Rattle.strip.specs.declared.Answer.TheVariants.{Done, Out, Refused}
-use Rattle.strip.specs.declared.Count.{Count}
-use Rattle.strip.specs.declared.Count.TheVariants.{Held, Unknown}
 use Rattle.strip.specs.declared.Request.{Request}
 use Rattle.strip.specs.declared.Request.TheVariants.{Idle, Push, Pop, Replace}
 
@@ -46,21 +42,23 @@ refusal_number NoTag = 7
 refusal_number BadPort = 8
 refusal_number NoHeap = 12
 
--- .. and 0 where nothing is refused
+-- what a call answers: that it is done, an element, or a refusal
+abbrev pub Answer : Type 0
+Answer = Result (Option Element) Refusal
+
+-- .. its number, 0 where nothing is refused
 abbrev pub number_of : Answer → ℕ
-number_of Done = 0
-number_of (Out e) = 0
-number_of (Refused r) = refusal_number r
+number_of (Ok o) = 0
+number_of (Err r) = refusal_number r
 
 unfoldable pub is_refused : Answer → Bool
-is_refused Done = false
-is_refused (Out e) = false
-is_refused (Refused r) = true
+is_refused (Ok o) = false
+is_refused (Err r) = true
 
 abbrev pub element_of : Answer → Element
-element_of Done = blank
-element_of (Out e) = e
-element_of (Refused r) = blank
+element_of (Ok None) = blank
+element_of (Ok (Some e)) = e
+element_of (Err r) = blank
 
 abbrev pub rank_of : Answer → ℕ
 rank_of a = (element_of a).rank.0
@@ -72,13 +70,13 @@ abbrev pub length_of : Answer → ℕ
 length_of a = (element_of a).length.0
 
 -- held: its number, and what it answers. "In every queue a refused held answers 0"
-abbrev pub count_number : Count → ℕ
-count_number (Held n) = 0
-count_number (Unknown r) = refusal_number r
+abbrev pub count_number : Result ℕ Refusal → ℕ
+count_number (Ok n) = 0
+count_number (Err r) = refusal_number r
 
-abbrev pub count_of : Count → ℕ
-count_of (Held n) = n
-count_of (Unknown r) = 0
+abbrev pub count_of : Result ℕ Refusal → ℕ
+count_of (Ok n) = n
+count_of (Err r) = 0
 
 -- ---- requests, and cycles of a machine that works by clock cycles
 -- is an operation asked for?
@@ -103,6 +101,5 @@ runs_idle NoHeap = true
 
 -- a cycle with this answer has run
 abbrev pub has_run : Answer → Bool
-has_run Done = true
-has_run (Out e) = true
-has_run (Refused r) = runs_idle r
+has_run (Ok o) = true
+has_run (Err r) = runs_idle r

@@ -1,14 +1,17 @@
 -- A text laid piece by piece, and digits that say their number.
 use Prim.Native.Nat.{◌%◌, ◌*◌, ◌+◌, ◌-◌, ◌/◌, ◌<◌, ◌^◌, ◌≤◌, suc, zero, ℕ}
-use native.Mathlib.Nat.{add-zero, le_of_lt, pow-suc, pow-zero}
-use native.Mathlib.Numerals.{add-one}
+use native.Mathlib.Nat.{add-zero, pow-suc, pow-zero}
 use native.Mathlib.Omega.{arith}
 use mathlib.Core.Bool.{Bool, cond, false, true}
 use mathlib.Core.List.{[], ◌++◌, ◌∷◌, List}
+use Rattle.std.proofs.Common.{append_assoc, drop, drop-drop}
+use Rattle.std.proofs.lemmas.List.{take-append-drop, drop-set-lt}
+use borrow.Rule.Slice.PartMut.{put_mid}
+use lib.Seq.{take-suc-set}
 use mathlib.Core.Path.{◌∙◌, ◌≡◌, ap, ap₂, refl, subst, sym}
 use lib.Dec.{ltb}
 use lib.ListN.{get_or, length, length-append, length-set, get_or-append, set, take}
-use lib.Seq.{get_or-append_seam, length-take-le, take-suc}
+use lib.Seq.{get_or-append_seam}
 use borrow.Author.Tests.{le-ltb, lt-ltb, ltb-false, ltb-true}
 use Rattle.text.specs.Text.{bytes_of, decimal_by, Laid, overlay, value, value_from}
 
@@ -115,10 +118,19 @@ pub digits_more : (s r : List ℕ) (i p left n : ℕ) → (left ≡ 0 → ⊥) �
 digits_more s r i p left n ne h ep er =
     rw (digits-as left n ne, le-ltb n 10 h) (rw length-append (omega arith), rw (overlay-one, ← er, ← ep))
 
-pub bytes_next : (s r b : List ℕ) (i j : ℕ) → j < length b → r ≡ overlay s i (take j b) → set r (i + j) (get_or b j 0) ≡ overlay s i (take (j + 1) b)
-bytes_next s r b i j h e =
-    let l : length (take j b) ≡ j = length-take-le j b (le_of_lt h) in
-    rw (add-one, take-suc b j 0 h, overlay-one, ← e, l)
+-- a text that fits is copied into its place
+overlay-copied : (s : List ℕ) (i : ℕ) (t : List ℕ) → i + length t ≤ length s → overlay s i t ≡ take i s ++ (t ++ drop (i + length t) s)
+unfolding overlay
+overlay-copied s i [] h = rw add-zero (sym (take-append-drop i s))
+overlay-copied s i (x ∷ t) h =
+    let l : i < length s = omega arith in
+    let k : suc i + length t ≤ length (set s i x) = rw length-set (omega arith) in
+    let m : i < suc i + length t = omega arith in
+    let n : suc i + length t ≡ i + suc (length t) = omega arith in
+    overlay-copied (set s i x) (suc i) t k ∙ rw (take-suc-set s i x l, append_assoc, drop-set-lt (suc i + length t) s i x m, n)
+
+pub overlay-put_mid : (s : List ℕ) (i k : ℕ) (t b : List ℕ) → t ≡ b → k ≡ length b → i + length b ≤ length s → put_mid i k s t ≡ overlay s i b
+overlay-put_mid s i k t b e n h = rw (e, n, overlay-copied s i b h, drop-drop)
 
 -- ---- texts laid one behind the other
 pub laid_same : (s : List ℕ) (i : ℕ) (t t' r : List ℕ) (p : ℕ) → t ≡ t' → Laid s i t r p → Laid s i t' r p

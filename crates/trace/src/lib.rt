@@ -1,7 +1,7 @@
 // The trace program's work, all but reading and writing: a trace played piece by piece into a buffer.
 #![tactic(auto)]
 
-ghost use Rattle.std.specs.Prelude.{◌≡◌, ◌+◌, ◌*◌, ◌/◌, ◌≤◌, false, length};
+ghost use Rattle.std.specs.Prelude.{Some, ◌≡◌, ◌+◌, ◌*◌, ◌/◌, ◌≤◌, false, length};
 ghost use Rattle.text.specs.Text.{Laid};
 ghost use Rattle.trace_model.specs.Format.{longest_line, record_bytes, entry_at, records_from, cut_record, bad_line};
 ghost use Rattle.trace_model.specs.Play.{Makes, after, carry, while_live, turn, played, ending, closing, shut, opening, begun, piece_of};
@@ -11,7 +11,7 @@ use strip::Request;
 use text::{put_bytes, put_number};
 use trace_bytes::lines::{put_end, put_line};
 use trace_bytes::records::{read_header, record_at, record_bytes};
-use trace_model::{Header, Piece, Playing, Record, Version};
+use trace_model::{Header, Piece, Playing, Version};
 use tree_clock::fresh_state;
 use tree_clock_model::State;
 
@@ -22,14 +22,11 @@ const LINE: usize = 96;
 fn carried(play: Playing, state: State, number: u64, live: bool, written: usize) -> Piece
     ensures { (result.play ≡ carry play state number live) × (result.written ≡ written) }
 {
-    let version = play.version;
     let play = Playing {
-        version,
-        order: play.order,
-        levels: play.levels,
         state,
         number,
         live,
+        ..play
     };
     Piece { play, written }
 }
@@ -39,16 +36,12 @@ fn carried(play: Playing, state: State, number: u64, live: bool, written: usize)
 // One cycle, and its line.
 fn play_good(store: &mut [u32], play: Playing, request: Request, at: usize, out: &mut [u8]) -> Piece
     requires { at + longest_line ≤ length out.old }
-    ensures { Makes (turn (Record.Good request) play store.old) at out.old result store.new out.new }
+    ensures { Makes (turn (Some request) play store.old) at out.old result store.new out.new }
 {
-    let state = play.state;
-    let done = tree_clock::cycle(store, play.order, play.levels, state, request);
-    let answer = done.answer;
-    let next = done.state;
-    let number = std::num::wrapping_add_u64(play.number, 1);
-    let version = play.version;
-    let written = put_line(out, at, version, number, request, answer);
-    carried(play, next, number, true, written)
+    let done = tree_clock::cycle(store, play.order, play.levels, play.state, request);
+    let number = play.number.wrapping_add(1);
+    let written = put_line(out, at, play.version, number, request, done.answer);
+    carried(play, done.state, number, true, written)
 }
 
 // The line of a bad record, which ends the play.
@@ -56,12 +49,11 @@ fn play_bad(play: Playing, at: usize, out: &mut [u8]) -> Piece
     requires { at + longest_line ≤ length out.old }
     ensures { (result.play ≡ carry play play.state play.number false) × Laid out.old at (bad_line (next_number play.number)) out.new result.written }
 {
-    let number = std::num::wrapping_add_u64(play.number, 1);
+    let number = play.number.wrapping_add(1);
     let a = put_bytes(out, at, b"bad record ");
     let b = put_number(out, a, number);
     let written = put_bytes(out, b, b"\n");
-    let state = play.state;
-    carried(play, state, play.number, false, written)
+    carried(play, play.state, play.number, false, written)
 }
 
 // The record at a place of the input, unless the play has ended.
@@ -73,11 +65,9 @@ fn play_record(store: &mut [u32], piece: Piece, bytes: &[u8], at: usize, out: &m
     if !play.live {
         return piece;
     }
-    let version = play.version;
-    let found = record_at(version, bytes, at);
-    match found {
-        Record::Bad => play_bad(play, piece.written, out),
-        Record::Good(request) => play_good(store, play, request, piece.written, out),
+    match record_at(play.version, bytes, at) {
+        None => play_bad(play, piece.written, out),
+        Some(request) => play_good(store, play, request, piece.written, out),
     }
 }
 
@@ -87,15 +77,12 @@ fn play_records(store: &mut [u32], play: Playing, bytes: &[u8], out: &mut [u8]) 
     ensures makes { Makes (played (records_from play.version (length bytes.now / record_bytes play.version) 0 bytes.now) play store.old) 0 out.old result store.new out.new }
     ensures written_bound { result.written ≤ longest_line * (length bytes.now / record_bytes play.version) }
 {
-    let version = play.version;
-    let size = record_bytes(version);
+    let size = record_bytes(play.version);
     let mut piece = Piece { play, written: 0 };
     let mut at = 0;
-    let mut left = bytes.len() / size;
-    while left > 0 {
+    for _left in (0..bytes.len() / size).rev() {
         piece = play_record(store, piece, bytes, at, out);
         at += size;
-        left -= 1;
     }
     piece
 }
@@ -107,14 +94,10 @@ fn play_end(store: &mut [u32], play: Playing, at: usize, out: &mut [u8]) -> Piec
     requires { at + longest_line ≤ length out.old }
     ensures { Makes (ending play store.old) at out.old result store.new out.new }
 {
-    let order = play.order;
-    let levels = play.levels;
-    let state = play.state;
-    let done = tree_clock::drain(store, order, levels, state, levels);
-    let held = strip::count_of(tree_clock::held(store, order, levels));
+    let done = tree_clock::drain(store, play.order, play.levels, play.state, play.levels);
+    let held = strip::count_of(tree_clock::held(store, play.order, play.levels));
     let written = put_end(out, at, held, done.cycles);
-    let next = done.state;
-    carried(play, next, play.number, false, written)
+    carried(play, done.state, play.number, false, written)
 }
 
 // What comes behind the whole records: one that is cut is bad, and the end of the input drains.
@@ -141,12 +124,11 @@ fn play_rest(store: &mut [u32], piece: Piece, cut: bool, last: bool, out: &mut [
 fn closed(written: usize) -> Piece
     ensures { (result.play ≡ shut) × (result.written ≡ written) }
 {
-    let state = fresh_state();
     let play = Playing {
         version: Version::One,
         order: 0,
         levels: 0,
-        state,
+        state: fresh_state(),
         number: 0,
         live: false,
     };
@@ -154,17 +136,15 @@ fn closed(written: usize) -> Piece
 }
 
 // A play on a cleared machine.
-fn opened(store: &mut [u32], version: Version, order: usize, levels: usize) -> Piece
-    ensures { (result.play ≡ (opening (Header.Shape version order levels) store.old).play) × (store.new ≡ (opening (Header.Shape version order levels) store.old).words) × (result.written ≡ 0) }
+fn opened(store: &mut [u32], header: Header) -> Piece
+    ensures { (result.play ≡ (opening (Some header) store.old).play) × (store.new ≡ (opening (Some header) store.old).words) × (result.written ≡ 0) }
 {
-    let none = fresh_state();
-    let cleared = tree_clock::clear(store, order, levels, none);
-    let state = cleared.state;
+    let cleared = tree_clock::clear(store, header.order, header.levels, fresh_state());
     let play = Playing {
-        version,
-        order,
-        levels,
-        state,
+        version: header.version,
+        order: header.order,
+        levels: header.levels,
+        state: cleared.state,
         number: 0,
         live: true,
     };
@@ -178,10 +158,9 @@ pub fn begin(store: &mut [u32], head: &[u8], out: &mut [u8]) -> Piece
     if out.len() < LINE {
         return closed(0);
     }
-    let header = read_header(head);
-    match header {
-        Header::Wrong => closed(put_bytes(out, 0, b"bad trace\n")),
-        Header::Shape(version, order, levels) => opened(store, version, order, levels),
+    match read_header(head) {
+        None => closed(put_bytes(out, 0, b"bad trace\n")),
+        Some(header) => opened(store, header),
     }
 }
 
@@ -190,8 +169,7 @@ pub fn begin(store: &mut [u32], head: &[u8], out: &mut [u8]) -> Piece
 pub fn play(store: &mut [u32], play: Playing, bytes: &[u8], last: bool, out: &mut [u8]) -> Piece
     ensures { Makes (piece_of bytes.now last (length out.old) play store.old) 0 out.old result store.new out.new }
 {
-    let version = play.version;
-    let size = record_bytes(version);
+    let size = record_bytes(play.version);
     if out.len() / LINE <= bytes.len() / size {
         return Piece { play, written: 0 };
     }

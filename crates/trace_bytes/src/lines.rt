@@ -54,12 +54,10 @@ fn put_out(out: &mut [u8], at: usize, version: Version, e: Element) -> usize
     requires { at + longest_word ≤ length out.old }
     ensures { Laid out.old at (out_word version e) out.new result }
 {
-    let rank = e.rank;
-    let tag = e.tag;
     let a = put_bytes(out, at, b"out ");
-    let b = put_number(out, a, rank.0 as u64);
+    let b = put_number(out, a, e.rank.0 as u64);
     let c = put_bytes(out, b, b" ");
-    let d = put_number(out, c, tag.0 as u64);
+    let d = put_number(out, c, e.tag.0 as u64);
     put_length(out, d, version, e.length)
 }
 
@@ -67,10 +65,11 @@ fn put_word(out: &mut [u8], at: usize, version: Version, request: Request, answe
     requires { at + longest_word ≤ length out.old }
     ensures { Laid out.old at (word_of version request answer) out.new result }
 {
+    // each arm hands over other values: a closure for the step would be no plainer
     match answer {
-        Answer::Done => put_done(out, at, request),
-        Answer::Out(e) => put_out(out, at, version, e),
-        Answer::Refused(r) => put_refusal(out, at, r),
+        Ok(None) => put_done(out, at, request),
+        Ok(Some(e)) => put_out(out, at, version, e),
+        Err(r) => put_refusal(out, at, r),
     }
 }
 

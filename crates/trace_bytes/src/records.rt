@@ -1,18 +1,12 @@
 // The trace program's input: the header's test, and a record's.
-ghost use Rattle.std.specs.Prelude.{◌≡◌, ◌+◌, ◌<◌, ◌≤◌, length};
+ghost use Rattle.std.specs.Prelude.{◌≡◌, ◌+◌, ◌≤◌, length};
 ghost use Rattle.trace_model.specs.Format.{record_bytes, number_at, length_at, sign_ok, trace_shape, headed, header_of, only_blank, entry_at, entry_of};
 
 use strip::{Element, Length, Rank, Request, Tag, is_blank};
-use trace_model::{Header, Record, Version};
+use trace_model::{Header, Version};
 use tree_node::capacity;
 
 // ---- the header
-
-fn wide(b: u8) -> u32
-    ensures { (result ≡ b) × (result < 256) }
-{
-    b as u32
-}
 
 fn sign_ok(bytes: &[u8]) -> bool
     requires { 7 ≤ length bytes.now }
@@ -32,33 +26,36 @@ fn shape_taken(order: usize, levels: usize) -> bool
 }
 
 // A shape in the version of this number, of which there are two.
-fn headed(version: u32, order: usize, levels: usize) -> Header
+fn headed(version: u16, order: usize, levels: usize) -> Option<Header>
     ensures { result ≡ headed version order levels }
 {
-    if version == 1 {
-        return Header::Shape(Version::One, order, levels);
-    }
-    if version == 2 {
-        return Header::Shape(Version::Two, order, levels);
-    }
-    Header::Wrong
+    let version = match version {
+        1 => Version::One,
+        2 => Version::Two,
+        _ => return None,
+    };
+    Some(Header {
+        version,
+        order,
+        levels,
+    })
 }
 
-pub fn read_header(bytes: &[u8]) -> Header
+pub fn read_header(bytes: &[u8]) -> Option<Header>
     ensures { result ≡ header_of bytes.now }
 {
     if bytes.len() < 7 {
-        return Header::Wrong;
+        return None;
     }
     if !sign_ok(bytes) {
-        return Header::Wrong;
+        return None;
     }
     let order = bytes[5] as usize;
     let levels = bytes[6] as usize;
     if !shape_taken(order, levels) {
-        return Header::Wrong;
+        return None;
     }
-    headed(wide(bytes[3]) + 256 * wide(bytes[4]), order, levels)
+    headed(u16::from_le_bytes([bytes[3], bytes[4]]), order, levels)
 }
 
 // ---- a record
@@ -77,30 +74,28 @@ fn number_at(bytes: &[u8], at: usize) -> u32
     requires { at + 4 ≤ length bytes.now }
     ensures { result ≡ number_at bytes.now at }
 {
-    wide(bytes[at])
-        + 256 * wide(bytes[at + 1])
-        + 65536 * wide(bytes[at + 2])
-        + 16777216 * wide(bytes[at + 3])
+    u32::from_le_bytes([bytes[at], bytes[at + 1], bytes[at + 2], bytes[at + 3]])
 }
 
-fn only_blank(e: Element, request: Request) -> Record
+fn only_blank(e: Element, request: Request) -> Option<Request>
     ensures { result ≡ only_blank e request }
 {
     if is_blank(e) {
-        return Record::Good(request);
+        return Some(request);
     }
-    Record::Bad
+    None
 }
 
-fn record_of(code: u8, e: Element) -> Record
+fn record_of(code: u8, e: Element) -> Option<Request>
     ensures { result ≡ entry_of code e }
 {
+    // four operations, and the range of all others
     match code {
         0 => only_blank(e, Request::Idle),
-        1 => Record::Good(Request::Push(e)),
+        1 => Some(Request::Push(e)),
         2 => only_blank(e, Request::Pop),
-        3 => Record::Good(Request::Replace(e)),
-        4..=255 => Record::Bad,
+        3 => Some(Request::Replace(e)),
+        4..=255 => None,
     }
 }
 
@@ -115,7 +110,7 @@ fn length_at(version: Version, bytes: &[u8], at: usize) -> u32
     }
 }
 
-pub fn record_at(version: Version, bytes: &[u8], at: usize) -> Record
+pub fn record_at(version: Version, bytes: &[u8], at: usize) -> Option<Request>
     requires { at + record_bytes version ≤ length bytes.now }
     ensures { result ≡ entry_at version bytes.now at }
 {

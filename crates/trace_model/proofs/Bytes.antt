@@ -1,5 +1,5 @@
--- Header, records and lines are those of 01 and 02, byte by byte (`specs/Bytes.antt`).
-use Rattle.laws.specs.Prelude.{Bool, Done, Element, Empty, Full, Idle, Iff, List, NoTag, Out, Pop, Push, Refused, Replace, Request, TooSoon, [], ◌&&◌, ◌*◌, ◌++◌, ◌+◌, ◌<◌, ◌^◌, ◌∙◌, ◌∷◌, ◌≡◌, ◌≤◌, ◌⊎◌, and_left, and_right, and-true, ap, ap₂, arith, cond, drop, element, eqb, eqb-false, eqb-true, false, get_or, inl, inr, is_blank, le-leb, leb, leb-false, leb-true, length, ne_eqb, refl, subst, suc, sum_to, sym, true, zero, ℕ, ⊎_elim}
+-- Option Header, records and lines are those of 01 and 02, byte by byte (`specs/Bytes.antt`).
+use Rattle.laws.specs.Prelude.{Bool, Element, Empty, Full, Idle, Iff, List, NoTag, Pop, Push, Replace, Request, TooSoon, [], ◌&&◌, ◌*◌, ◌++◌, ◌+◌, ◌<◌, ◌^◌, ◌∙◌, ◌∷◌, ◌≡◌, ◌≤◌, ◌⊎◌, and_left, and_right, and-true, ap, ap₂, arith, cond, drop, element, eqb, eqb-false, eqb-true, false, get_or, inl, inr, is_blank, le-leb, leb, leb-false, leb-true, length, ne_eqb, refl, subst, suc, sum_to, sym, true, zero, ℕ, ⊎_elim, Ok, None, Some, Err}
 use native.Mathlib.Nat.{mul-le-mul_left}
 use mathlib.Core.List.{append_assoc, append-nil}
 use Rattle.tree_clock_model.specs.Prelude.{cleared_machine}
@@ -10,10 +10,9 @@ use Rattle.trace_model.proofs.VersionRead.{version-read}
 use Rattle.trace_model.specs.Bytes.{four_bytes, head_bytes, Headless, idle, idle-with, other, pop, pop-with, push, replace, Said, Says, Taken, version_number}
 use Rattle.trace_model.specs.Format.{byte_at, cut_record, done_word, entry_at, entry_of, headed, header_bytes, header_of, length_at, length_word, line_of, sign_ok, number_at, only_blank, out_word, record_bytes, records_from, records_of, refusal_word, trace_limit, trace_shape, version_at, word_of}
 use Rattle.trace_model.specs.Program.{empty_store, store_words, text_from, text_of, trace_text}
+use Rattle.std.specs.Prelude.{None, Option, Some}
 use Rattle.trace_model.specs.declared.Header.{Header}
-use Rattle.trace_model.specs.declared.Header.TheVariants.{Shape, Wrong}
-use Rattle.trace_model.specs.declared.Record.{Record}
-use Rattle.trace_model.specs.declared.Record.TheVariants.{Bad, Good}
+use Rattle.trace_model.specs.Format.{header}
 use Rattle.trace_model.specs.declared.Version.{Version}
 use Rattle.trace_model.specs.declared.Version.TheVariants.{One, Two}
 use Rattle.tree_model.proofs.Laws.{capacity, shape_is}
@@ -92,12 +91,12 @@ taken-shape m levels t =
 
 -- ---- the header
 -- HEADER: these bytes are read as that version, order and levels ..
-pub header_read : (v : Version) (m levels : ℕ) (records : List ℕ) → Taken m levels → header_of (head_bytes v m levels records) ≡ Shape v m levels
+pub header_read : (v : Version) (m levels : ℕ) (records : List ℕ) → Taken m levels → header_of (head_bytes v m levels records) ≡ Some (header v m levels)
 unfolding header_of sign_ok headed
 header_read One m levels records t =
-    ap₂ (λ (long taken : Bool). cond (long && taken) (Shape One m levels) Wrong) (le-leb header_bytes (length (head_bytes One m levels records)) (omega arith)) (taken-shape m levels t)
+    ap₂ (λ (long taken : Bool). cond (long && taken) (Some (header One m levels)) None) (le-leb header_bytes (length (head_bytes One m levels records)) (omega arith)) (taken-shape m levels t)
 header_read Two m levels records t =
-    ap₂ (λ (long taken : Bool). cond (long && taken) (Shape Two m levels) Wrong) (le-leb header_bytes (length (head_bytes Two m levels records)) (omega arith)) (taken-shape m levels t)
+    ap₂ (λ (long taken : Bool). cond (long && taken) (Some (header Two m levels)) None) (le-leb header_bytes (length (head_bytes Two m levels records)) (omega arith)) (taken-shape m levels t)
 
 -- .. and nothing else is
 seven : (bs : List ℕ) → 7 ≤ length bs
@@ -115,12 +114,12 @@ version-bytes : (v : Version) (low high : ℕ) → low + 256 * high ≡ version_
 version-bytes One low high e = (omega arith, omega arith)
 version-bytes Two low high e = (omega arith, omega arith)
 
-pub header-only : (bs : List ℕ) (v : Version) (m levels : ℕ) → header_of bs ≡ Shape v m levels → Taken m levels × (bs ≡ head_bytes v m levels (drop 7 bs))
+pub header-only : (bs : List ℕ) (v : Version) (m levels : ℕ) → header_of bs ≡ Some (header v m levels) → Taken m levels × (bs ≡ head_bytes v m levels (drop 7 bs))
 unfolding header_of sign_ok
 header-only bs v m levels e = go (leb header_bytes (length bs) && (sign_ok bs && trace_shape (byte_at bs 5) (byte_at bs 6))) refl e
   where
     go : (b : Bool) → (leb header_bytes (length bs) && (sign_ok bs && trace_shape (byte_at bs 5) (byte_at bs 6))) ≡ b
-        → cond b (headed (version_at bs 3) (byte_at bs 5) (byte_at bs 6)) Wrong ≡ Shape v m levels → Taken m levels × (bs ≡ head_bytes v m levels (drop 7 bs))
+        → cond b (headed (version_at bs 3) (byte_at bs 5) (byte_at bs 6)) None ≡ Some (header v m levels) → Taken m levels × (bs ≡ head_bytes v m levels (drop 7 bs))
     go true t p =
         let rest = and_right (leb header_bytes (length bs)) (sign_ok bs && trace_shape (byte_at bs 5) (byte_at bs 6)) t in
         let long = leb-true header_bytes (length bs) (and_left (leb header_bytes (length bs)) (sign_ok bs && trace_shape (byte_at bs 5) (byte_at bs 6)) t) in
@@ -145,29 +144,29 @@ pub bad-trace : (bs : List ℕ) → Headless bs → trace_text bs ≡ bytes_of "
 unfolding trace_text text_of
 bad-trace bs none = go (header_of bs) refl
   where
-    go : (h : Header) → header_of bs ≡ h → text_of h (drop header_bytes bs) ≡ bytes_of "bad trace\n"
-    go Wrong e = refl
-    go (Shape v m levels) e = let o = header-only bs v m levels e in absurd (none v m levels (drop header_bytes bs) o.0 o.1)
+    go : (h : Option Header) → header_of bs ≡ h → text_of h (drop header_bytes bs) ≡ bytes_of "bad trace\n"
+    go None e = refl
+    go (Some h) e = let o = header-only bs h.version h.order h.levels e in absurd (none h.version h.order h.levels (drop header_bytes bs) o.0 o.1)
 
 -- behind a good one the records are played, with a cleared machine of that shape
 pub good-trace : (v : Version) (m levels : ℕ) (records : List ℕ) → Taken m levels
     → trace_text (head_bytes v m levels records) ≡ text_from m levels v 0 (cleared_machine m levels empty_store).state (cleared_machine m levels empty_store).words (records_of v records)
 unfolding trace_text text_of
-good-trace v m levels records t = ap (λ (h : Header). text_of h records) (header_read v m levels records t)
+good-trace v m levels records t = ap (λ (h : Option Header). text_of h records) (header_read v m levels records t)
 
 -- ---- the records
 -- a code and its numbers say what 01 has
-blank-bad : (rank tag len : ℕ) (q : Request) → (rank ≡ 0 → ⊥) ⊎ (tag ≡ 0 → ⊥) ⊎ (len ≡ 0 → ⊥) → only_blank (element rank tag len) q ≡ Bad
+blank-bad : (rank tag len : ℕ) (q : Request) → (rank ≡ 0 → ⊥) ⊎ (tag ≡ 0 → ⊥) ⊎ (len ≡ 0 → ⊥) → only_blank (element rank tag len) q ≡ None
 unfolding is_blank
 blank-bad rank tag len q some = go (eqb rank 0) refl (eqb tag 0) refl (eqb len 0) refl
   where
-    go : (a : Bool) → eqb rank 0 ≡ a → (b : Bool) → eqb tag 0 ≡ b → (c : Bool) → eqb len 0 ≡ c → cond (a && (b && c)) (Good q) Bad ≡ Bad
+    go : (a : Bool) → eqb rank 0 ≡ a → (b : Bool) → eqb tag 0 ≡ b → (c : Bool) → eqb len 0 ≡ c → cond (a && (b && c)) (Some q) None ≡ None
     go false x b y c z = refl
     go true x false y c z = refl
     go true x true y false z = refl
     go true x true y true z = absurd (⊎_elim (λ n. n (eqb-true rank 0 x)) (⊎_elim (λ n. n (eqb-true tag 0 y)) (λ n. n (eqb-true len 0 z))) some)
 
-entry-says : (rank tag len code : ℕ) (r : Record) → Says rank tag len code r → entry_of code (element rank tag len) ≡ r
+entry-says : (rank tag len code : ℕ) (r : Option Request) → Says rank tag len code r → entry_of code (element rank tag len) ≡ r
 unfolding entry_of is_blank
 entry-says rank tag len code r (idle a b c) = λ i. entry_of 0 (element (a i) (b i) (c i))
 entry-says rank tag len code r push = refl
@@ -190,12 +189,12 @@ blank-or rank tag len = go (eqb rank 0) refl (eqb tag 0) refl (eqb len 0) refl
 
 pub always-says : (rank tag len code : ℕ) → Said rank tag len code
 always-says rank tag len zero =
-    ⊎_elim (λ z. record { entry = Good Idle; says = idle z.0 z.1 z.2 }) (λ n. record { entry = Bad; says = idle-with n }) (blank-or rank tag len)
-always-says rank tag len (suc zero) = record { entry = Good (Push (element rank tag len)); says = push }
+    ⊎_elim (λ z. record { entry = Some Idle; says = idle z.0 z.1 z.2 }) (λ n. record { entry = None; says = idle-with n }) (blank-or rank tag len)
+always-says rank tag len (suc zero) = record { entry = Some (Push (element rank tag len)); says = push }
 always-says rank tag len (suc (suc zero)) =
-    ⊎_elim (λ z. record { entry = Good Pop; says = pop z.0 z.1 z.2 }) (λ n. record { entry = Bad; says = pop-with n }) (blank-or rank tag len)
-always-says rank tag len (suc (suc (suc zero))) = record { entry = Good (Replace (element rank tag len)); says = replace }
-always-says rank tag len (suc (suc (suc (suc k)))) = record { entry = Bad; says = other (suc (suc (suc (suc k)))) (omega arith) }
+    ⊎_elim (λ z. record { entry = Some Pop; says = pop z.0 z.1 z.2 }) (λ n. record { entry = None; says = pop-with n }) (blank-or rank tag len)
+always-says rank tag len (suc (suc (suc zero))) = record { entry = Some (Replace (element rank tag len)); says = replace }
+always-says rank tag len (suc (suc (suc (suc k)))) = record { entry = None; says = other (suc (suc (suc (suc k)))) (omega arith) }
 
 -- NUMBER: "low bytes first", the sum of four bytes times 1, 256, 65,536 and 16,777,216
 pub number-says : (bs : List ℕ) (i : ℕ) → number_at bs i ≡ four_bytes (get_or bs i 0) (get_or bs (i + 1) 0) (get_or bs (i + 2) 0) (get_or bs (i + 3) 0)
@@ -206,25 +205,25 @@ records-one : (v : Version) (a rest : List ℕ) → length a ≡ record_bytes v 
 unfolding records_from
 records-one v a rest e =
     let one : length a ≡ record_bytes v * 1 = omega arith in
-    records-append v a rest 1 one ∙ ap (λ (es : List Record). es ++ records_of v rest) (records-whole v a rest 1 one)
+    records-append v a rest 1 one ∙ ap (λ (es : List (Option Request)). es ++ records_of v rest) (records-whole v a rest 1 one)
 
 -- RECORDS: "records of 9 bytes: code, rank, tag, low bytes first", read with length 0 ..
-pub nine-bytes : (code a b c d e f g h : ℕ) (records : List ℕ) (r : Record) → Says (four_bytes a b c d) (four_bytes e f g h) 0 code r
+pub nine-bytes : (code a b c d e f g h : ℕ) (records : List ℕ) (r : Option Request) → Says (four_bytes a b c d) (four_bytes e f g h) 0 code r
     → records_of One (code ∷ a ∷ b ∷ c ∷ d ∷ e ∷ f ∷ g ∷ h ∷ records) ≡ r ∷ records_of One records
 unfolding entry_at length_at
 nine-bytes code a b c d e f g h records r s =
     let bs : List ℕ = code ∷ a ∷ b ∷ c ∷ d ∷ e ∷ f ∷ g ∷ h ∷ [] in
     records-one One bs records (omega arith)
-    ∙ ap (λ (x : Record). x ∷ records_of One records) ((λ p. entry_of code (element (number-says bs 1 p) (number-says bs 5 p) 0)) ∙ entry-says _ _ _ _ _ s)
+    ∙ ap (λ (x : Option Request). x ∷ records_of One records) ((λ p. entry_of code (element (number-says bs 1 p) (number-says bs 5 p) 0)) ∙ entry-says _ _ _ _ _ s)
 
 -- .. and "13-byte records"
-pub thirteen-bytes : (code a b c d e f g h i j k l : ℕ) (records : List ℕ) (r : Record) → Says (four_bytes a b c d) (four_bytes e f g h) (four_bytes i j k l) code r
+pub thirteen-bytes : (code a b c d e f g h i j k l : ℕ) (records : List ℕ) (r : Option Request) → Says (four_bytes a b c d) (four_bytes e f g h) (four_bytes i j k l) code r
     → records_of Two (code ∷ a ∷ b ∷ c ∷ d ∷ e ∷ f ∷ g ∷ h ∷ i ∷ j ∷ k ∷ l ∷ records) ≡ r ∷ records_of Two records
 unfolding entry_at length_at
 thirteen-bytes code a b c d e f g h i j k l records r s =
     let bs : List ℕ = code ∷ a ∷ b ∷ c ∷ d ∷ e ∷ f ∷ g ∷ h ∷ i ∷ j ∷ k ∷ l ∷ [] in
     records-one Two bs records (omega arith)
-    ∙ ap (λ (x : Record). x ∷ records_of Two records)
+    ∙ ap (λ (x : Option Request). x ∷ records_of Two records)
     ((λ p. entry_of code (element (number-says bs 1 p) (number-says bs 5 p) (number-says bs 9 p))) ∙ entry-says _ _ _ _ _ s)
 
 -- "and so is .. a cut record"; bytes that are none have none
@@ -233,49 +232,49 @@ unfolding records_of records_from cut_record
 no-records One = refl
 no-records Two = refl
 
-pub cut-nine : (bs : List ℕ) → 0 < length bs → length bs < 9 → records_of One bs ≡ Bad ∷ []
+pub cut-nine : (bs : List ℕ) → 0 < length bs → length bs < 9 → records_of One bs ≡ None ∷ []
 cut-nine bs some few = cut_record_lem One bs (omega arith) (omega arith)
 
-pub cut-thirteen : (bs : List ℕ) → 0 < length bs → length bs < 13 → records_of Two bs ≡ Bad ∷ []
+pub cut-thirteen : (bs : List ℕ) → 0 < length bs → length bs < 13 → records_of Two bs ≡ None ∷ []
 cut-thirteen bs some few = cut_record_lem Two bs (omega arith) (omega arith)
 
 -- ---- the lines
 -- LINES: a record's number, and in plain text what the cycle answered
 module _ (v : Version) (n : ℕ) where
-  pub line-idle : line_of v n Idle Done ≡ decimal n ++ bytes_of " idle\n"
+  pub line-idle : line_of v n Idle (Ok None) ≡ decimal n ++ bytes_of " idle\n"
   unfolding line_of word_of done_word
   line-idle = refl
 
-  pub line-pushed : (x : Element) → line_of v n (Push x) Done ≡ decimal n ++ bytes_of " pushed\n"
+  pub line-pushed : (x : Element) → line_of v n (Push x) (Ok None) ≡ decimal n ++ bytes_of " pushed\n"
   unfolding line_of word_of done_word
   line-pushed x = refl
 
-  pub line-soon : (q : Request) → line_of v n q (Refused TooSoon) ≡ decimal n ++ bytes_of " too soon\n"
+  pub line-soon : (q : Request) → line_of v n q (Err TooSoon) ≡ decimal n ++ bytes_of " too soon\n"
   unfolding line_of word_of refusal_word
   line-soon q = refl
 
-  pub line-full : (q : Request) → line_of v n q (Refused Full) ≡ decimal n ++ bytes_of " full\n"
+  pub line-full : (q : Request) → line_of v n q (Err Full) ≡ decimal n ++ bytes_of " full\n"
   unfolding line_of word_of refusal_word
   line-full q = refl
 
-  pub line-empty : (q : Request) → line_of v n q (Refused Empty) ≡ decimal n ++ bytes_of " empty\n"
+  pub line-empty : (q : Request) → line_of v n q (Err Empty) ≡ decimal n ++ bytes_of " empty\n"
   unfolding line_of word_of refusal_word
   line-empty q = refl
 
-  pub line-untagged : (q : Request) → line_of v n q (Refused NoTag) ≡ decimal n ++ bytes_of " no tag\n"
+  pub line-untagged : (q : Request) → line_of v n q (Err NoTag) ≡ decimal n ++ bytes_of " no tag\n"
   unfolding line_of word_of refusal_word
   line-untagged q = refl
 
 -- "an `out` line with a third number" in version 2, "the old lines" in version 1
 pub line-out : (n : ℕ) (q : Request) (rank tag len : ℕ)
-    → line_of One n q (Out (element rank tag len)) ≡ decimal n ++ (bytes_of " out " ++ (decimal rank ++ (bytes_of " " ++ (decimal tag ++ bytes_of "\n"))))
+    → line_of One n q (Ok (Some (element rank tag len))) ≡ decimal n ++ (bytes_of " out " ++ (decimal rank ++ (bytes_of " " ++ (decimal tag ++ bytes_of "\n"))))
 unfolding line_of word_of out_word length_word
 line-out n q rank tag len =
     ap (λ (t : List ℕ). decimal n ++ (bytes_of " out " ++ t))
     (append_assoc (decimal rank) (bytes_of " " ++ (decimal tag ++ [])) (bytes_of "\n") ∙ ap (λ (t : List ℕ). decimal rank ++ (bytes_of " " ++ (t ++ bytes_of "\n"))) (append-nil (decimal tag)))
 
 pub line-out-length : (n : ℕ) (q : Request) (rank tag len : ℕ)
-    → line_of Two n q (Out (element rank tag len)) ≡ decimal n ++ (bytes_of " out " ++ (decimal rank ++ (bytes_of " " ++ (decimal tag ++ (bytes_of " " ++ (decimal len ++ bytes_of "\n"))))))
+    → line_of Two n q (Ok (Some (element rank tag len))) ≡ decimal n ++ (bytes_of " out " ++ (decimal rank ++ (bytes_of " " ++ (decimal tag ++ (bytes_of " " ++ (decimal len ++ bytes_of "\n"))))))
 unfolding line_of word_of out_word length_word
 line-out-length n q rank tag len =
     ap (λ (t : List ℕ). decimal n ++ (bytes_of " out " ++ t))

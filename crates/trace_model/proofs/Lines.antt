@@ -1,5 +1,5 @@
 -- The lengths of words and lines.
-use Rattle.laws.specs.Prelude.{Answer, BadPort, BadRank, BadShape, Damaged, Done, Element, Empty, Full, Idle, NoHeap, NoTag, Out, Pop, Push, Refused, Replace, Request, TooSoon, ◌≤◌, arith, length, length-append, ℕ}
+use Rattle.laws.specs.Prelude.{Answer, BadPort, BadRank, BadShape, Damaged, Element, Empty, Full, Idle, NoHeap, NoTag, Pop, Push, Replace, Request, TooSoon, ◌≤◌, arith, length, length-append, ℕ, Ok, None, Some, Err}
 use Rattle.text.proofs.Laws.{decimal-short}
 use Rattle.text.specs.Text.{decimal}
 use Rattle.trace_model.specs.Format.{bad_line, done_word, end_line, length_word, line_of, longest_line, longest_word, out_word, refusal_word, word_of}
@@ -19,20 +19,20 @@ out-short v e =
 
 pub word-short : (v : Version) (r : Request) (a : Answer) → length (word_of v r a) ≤ longest_word
 unfolding word_of done_word refusal_word
-word-short v Idle Done = omega arith
-word-short v (Push x) Done = omega arith
-word-short v Pop Done = omega arith
-word-short v (Replace x) Done = omega arith
-word-short v r (Out e) = omega (arith, out-short v e)
-word-short v r (Refused BadShape) = omega arith
-word-short v r (Refused Damaged) = omega arith
-word-short v r (Refused TooSoon) = omega arith
-word-short v r (Refused BadRank) = omega arith
-word-short v r (Refused Full) = omega arith
-word-short v r (Refused Empty) = omega arith
-word-short v r (Refused NoTag) = omega arith
-word-short v r (Refused BadPort) = omega arith
-word-short v r (Refused NoHeap) = omega arith
+word-short v Idle (Ok None) = omega arith
+word-short v (Push x) (Ok None) = omega arith
+word-short v Pop (Ok None) = omega arith
+word-short v (Replace x) (Ok None) = omega arith
+word-short v r (Ok (Some e)) = omega (arith, out-short v e)
+word-short v r (Err BadShape) = omega arith
+word-short v r (Err Damaged) = omega arith
+word-short v r (Err TooSoon) = omega arith
+word-short v r (Err BadRank) = omega arith
+word-short v r (Err Full) = omega arith
+word-short v r (Err Empty) = omega arith
+word-short v r (Err NoTag) = omega arith
+word-short v r (Err BadPort) = omega arith
+word-short v r (Err NoHeap) = omega arith
 
 pub line-short : (v : Version) (n : ℕ) (r : Request) (a : Answer) → length (line_of v n r a) ≤ longest_line
 unfolding line_of decimal

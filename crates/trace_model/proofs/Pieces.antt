@@ -9,11 +9,10 @@ use Rattle.trace_model.proofs.Sizes.{lot, lots-room, lots-whole, more-records, r
 use Rattle.trace_model.specs.Format.{cut_record, entry_at, entry_of, headed, header_bytes, header_of, length_at, longest_line, sign_ok, number_at, record_bytes, records_from, records_of, trace_shape}
 use Rattle.trace_model.specs.Play.{after, begun, closing, ending, in_pieces, opening, out_bytes, piece_bytes, piece_of, piece_run, pieces_text, played, program_lots, run, Run, shut, stands, Step, turn, while_live}
 use Rattle.trace_model.specs.Program.{empty_store, end_of, text_from, text_of, trace_text}
+use Rattle.std.specs.Prelude.{None, Option, Some}
 use Rattle.trace_model.specs.declared.Header.{Header}
-use Rattle.trace_model.specs.declared.Header.TheVariants.{Shape, Wrong}
+use Rattle.laws.specs.Prelude.{Request}
 use Rattle.trace_model.specs.declared.Playing.{Playing}
-use Rattle.trace_model.specs.declared.Record.{Record}
-use Rattle.trace_model.specs.declared.Record.TheVariants.{Bad, Good}
 use Rattle.trace_model.specs.declared.Version.{Version}
 use Rattle.trace_model.specs.declared.Version.TheVariants.{One, Two}
 
@@ -53,13 +52,13 @@ module _ (v : Version) (a b : List ℕ) where
   records-first zero i h = refl
   records-first (suc k) i h =
       let step : i + record_bytes v + record_bytes v * k ≤ length a = rw (records-step v i k, add-one) h in
-      ap₂ (λ (e : Record) (es : List Record). e ∷ es) (entry_first i (omega arith)) (records-first k (i + record_bytes v) step)
+      ap₂ (λ (e : Option Request) (es : List (Option Request)). e ∷ es) (entry_first i (omega arith)) (records-first k (i + record_bytes v) step)
 
   records-second : (k i : ℕ) → records_from v k (length a + i) (a ++ b) ≡ records_from v k i b
   unfolding records_from
   records-second zero i = refl
   records-second (suc k) i =
-      ap₂ (λ (e : Record) (es : List Record). e ∷ es) (entry-second i)
+      ap₂ (λ (e : Option Request) (es : List (Option Request)). e ∷ es) (entry-second i)
       (ap (λ (j : ℕ). records_from v k j (a ++ b)) (add_assoc (length a) i (record_bytes v)) ∙ records-second k (i + record_bytes v))
 
 records-more : (v : Version) (k j i : ℕ) (bs : List ℕ) → records_from v (k + j) i bs ≡ records_from v k i bs ++ records_from v j (i + record_bytes v * k) bs
@@ -71,7 +70,7 @@ records-more v (suc k) j i bs =
     let s : suc k + j ≡ suc (k + j) = omega arith in
     let e : i + record_bytes v + record_bytes v * k ≡ i + record_bytes v * suc k = rw (← add-one k) (records-step v i k) in
     ap (λ (n : ℕ). records_from v n i bs) s
-    ∙ ap (λ (es : List Record). entry_at v bs i ∷ es) (records-more v k j (i + record_bytes v) bs ∙ ap (λ (n : ℕ). records_from v k (i + record_bytes v) bs ++ records_from v j n bs) e)
+    ∙ ap (λ (es : List (Option Request)). entry_at v bs i ∷ es) (records-more v k j (i + record_bytes v) bs ∙ ap (λ (n : ℕ). records_from v k (i + record_bytes v) bs ++ records_from v j n bs) e)
 
 -- the records of whole records and what comes behind them
 module _ (v : Version) (a b : List ℕ) (k : ℕ) (whole : length a ≡ record_bytes v * k) where
@@ -86,13 +85,13 @@ module _ (v : Version) (a b : List ℕ) (k : ℕ) (whole : length a ≡ record_b
       let w = more-records v (length (a ++ b)) k (length b) long in
       let from : 0 + record_bytes v * k ≡ length a + 0 = omega arith in
       let n : ℕ = length b / record_bytes v in
-      let c : List Record = cut_record (not (eqb (length b % record_bytes v) 0)) in
+      let c : List (Option Request) = cut_record (not (eqb (length b % record_bytes v) 0)) in
       ap₂ (λ (n m : ℕ). records_from v n 0 (a ++ b) ++ cut_record (not (eqb m 0))) w.0 w.1
-      ∙ ap (λ (es : List Record). es ++ c)
+      ∙ ap (λ (es : List (Option Request)). es ++ c)
       (records-more v k n 0 (a ++ b)
-      ∙ ap₂ (λ (es fs : List Record). es ++ fs) (records-first v a b k 0 (omega arith)) (ap (λ (i : ℕ). records_from v n i (a ++ b)) from ∙ records-second v a b n 0))
+      ∙ ap₂ (λ (es fs : List (Option Request)). es ++ fs) (records-first v a b k 0 (omega arith)) (ap (λ (i : ℕ). records_from v n i (a ++ b)) from ∙ records-second v a b n 0))
       ∙ append_assoc (records_from v k 0 a) (records_from v n 0 b) c
-      ∙ ap (λ (es : List Record). es ++ records_of v b) (sym records-whole)
+      ∙ ap (λ (es : List (Option Request)). es ++ records_of v b) (sym records-whole)
 
 -- ---- steps
 after_same : (u : Run) (f g : Step) → f u.play u.words ≡ g u.play u.words → after u f ≡ after u g
@@ -141,7 +140,7 @@ unfolding piece_run closing
 two-pieces a b k p whole last ws =
     let v : Version = p.version in
     let u : Run = played (records_of v a) p ws in
-    ap (λ (es : List Record). after (played es p ws) (closing last)) (records-append v a b k whole)
+    ap (λ (es : List (Option Request)). after (played es p ws) (closing last)) (records-append v a b k whole)
     ∙ ap (λ (u : Run). after u (closing last)) (played-append (records_of v a) (records_of v b) p ws)
     ∙ after-after u (played (records_of v b)) (closing last)
     ∙ after_same u (λ q vs. after (played (records_of v b) q vs) (closing last)) (piece_run b last)
@@ -196,7 +195,7 @@ closing-text : (p : Playing) (ws : List ℕ) → p.live ≡ true → (closing tr
 unfolding closing while_live ending
 closing-text p ws e = ap (λ (b : Bool). (cond b (ending p ws) (stands p ws)).text) e
 
-text-next : (x : Record) (es : List Record) (p : Playing) (ws : List ℕ) → p.live ≡ true
+text-next : (x : Option Request) (es : List (Option Request)) (p : Playing) (ws : List ℕ) → p.live ≡ true
     → (after (played (x ∷ es) p ws) (closing true)).text ≡ (turn x p ws).text ++ (after (played es (turn x p ws).play (turn x p ws).words) (closing true)).text
 unfolding played while_live
 text-next x es p ws e =
@@ -204,18 +203,18 @@ text-next x es p ws e =
     ∙ ap (λ (u : Run). u.text) (after-after (turn x p ws) (played es) (closing true))
     ∙ after_text (turn x p ws) (λ q vs. after (played es q vs) (closing true))
 
-text-from : (es : List Record) (p : Playing) (ws : List ℕ) → p.live ≡ true
+text-from : (es : List (Option Request)) (p : Playing) (ws : List ℕ) → p.live ≡ true
     → (after (played es p ws) (closing true)).text ≡ text_from p.order p.levels p.version p.number p.state ws es
 unfolding played text_from turn
 text-from [] p ws e = ap (λ (u : Run). u.text) (stands_after p ws (closing true)) ∙ closing-text p ws e
-text-from (Bad ∷ es) p ws e =
-    text-next Bad es p ws e
-    ∙ ap (λ (u : Run). (turn Bad p ws).text ++ (after u (closing true)).text) (played-ended es (turn Bad p ws).play ws refl)
-    ∙ ap (λ (u : Run). (turn Bad p ws).text ++ u.text) (stands_after (turn Bad p ws).play ws (closing true) ∙ closing-ended true (turn Bad p ws).play ws refl)
-    ∙ append-nil (turn Bad p ws).text
-text-from (Good r ∷ es) p ws e =
-    text-next (Good r) es p ws e
-    ∙ ap (λ (t : List ℕ). (turn (Good r) p ws).text ++ t) (text-from es (turn (Good r) p ws).play (turn (Good r) p ws).words refl)
+text-from (None ∷ es) p ws e =
+    text-next None es p ws e
+    ∙ ap (λ (u : Run). (turn None p ws).text ++ (after u (closing true)).text) (played-ended es (turn None p ws).play ws refl)
+    ∙ ap (λ (u : Run). (turn None p ws).text ++ u.text) (stands_after (turn None p ws).play ws (closing true) ∙ closing-ended true (turn None p ws).play ws refl)
+    ∙ append-nil (turn None p ws).text
+text-from (Some r ∷ es) p ws e =
+    text-next (Some r) es p ws e
+    ∙ ap (λ (t : List ℕ). (turn (Some r) p ws).text ++ t) (text-from es (turn (Some r) p ws).play (turn (Some r) p ws).words refl)
 
 header-long : (bs : List ℕ) → header_bytes ≤ length bs → header_of (take header_bytes bs) ≡ header_of bs
 unfolding header_of sign_ok
@@ -230,7 +229,7 @@ header-long bs h =
     let b4 = same 4 (omega arith) in
     let b5 = same 5 (omega arith) in
     let b6 = same 6 (omega arith) in
-    λ k. cond (long k && ((eqb (b0 k) 80 && (eqb (b1 k) 70 && eqb (b2 k) 84)) && trace_shape (b5 k) (b6 k))) (headed (b3 k + 256 * b4 k) (b5 k) (b6 k)) Wrong
+    λ k. cond (long k && ((eqb (b0 k) 80 && (eqb (b1 k) 70 && eqb (b2 k) 84)) && trace_shape (b5 k) (b6 k))) (headed (b3 k + 256 * b4 k) (b5 k) (b6 k)) None
 
 -- the header's bytes are enough for the header
 header-first : (bs : List ℕ) → header_of (take header_bytes bs) ≡ header_of bs
@@ -244,12 +243,12 @@ whole-text : (bs : List ℕ) (p : Playing) (ws : List ℕ) → p.live ≡ true �
 unfolding piece_run
 whole-text bs p ws e = text-from (records_of p.version bs) p ws e
 
-by-header : (r : ℕ) → 0 < r → (h : Header) (rest : List ℕ)
+by-header : (r : ℕ) → 0 < r → (h : Option Header) (rest : List ℕ)
     → (after (opening h empty_store) (while_live (in_pieces r (suc (length rest)) rest))).text ≡ text_of h rest
 unfolding opening text_of
-by-header r some Wrong rest = ap (λ (u : Run). u.text) (ended-after (opening Wrong empty_store) (in_pieces r (suc (length rest)) rest) refl)
-by-header r some (Shape v m levels) rest =
-    let u : Run = opening (Shape v m levels) empty_store in
+by-header r some None rest = ap (λ (u : Run). u.text) (ended-after (opening None empty_store) (in_pieces r (suc (length rest)) rest) refl)
+by-header r some (Some h) rest =
+    let u : Run = opening (Some h) empty_store in
     ap (λ (v : Run). v.text) (after_same u (while_live (in_pieces r (suc (length rest)) rest)) (piece_run rest true)
     (live_same (in_pieces r (suc (length rest)) rest) (piece_run rest true) u.play u.words (pieces-run r some (suc (length rest)) rest u.play u.words (omega arith))
     ∙ live-piece rest true u.play u.words))
@@ -264,7 +263,7 @@ pieces r some bs =
     let ws : List ℕ = empty_store in
     let room : longest_line ≤ out_bytes r = omega arith in
     ap (λ (b : Bool). (after (cond b (opening (header_of (take header_bytes bs)) ws) (run ws shut [])) (while_live (in_pieces r (suc (length rest)) rest))).text) (le-leb longest_line (out_bytes r) room)
-    ∙ ap (λ (h : Header). (after (opening h ws) (while_live (in_pieces r (suc (length rest)) rest))).text) (header-first bs)
+    ∙ ap (λ (h : Option Header). (after (opening h ws) (while_live (in_pieces r (suc (length rest)) rest))).text) (header-first bs)
     ∙ by-header r some (header_of bs) rest
 
 -- .. and so with the program's own pieces

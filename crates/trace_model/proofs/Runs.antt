@@ -1,5 +1,5 @@
 -- A play step by step, by what the code has done.
-use Rattle.laws.specs.Prelude.{Answer, Bool, Count, List, Request, [], ◌%◌, ◌++◌, ◌+◌, ◌-◌, ◌/◌, ◌<◌, ◌∙◌, ◌∷◌, ◌≡◌, ◌≤◌, ap, ap₂, arith, cond, count_of, eqb, false, le-leb, le-ltb, length, length-append, lt-leb, lt-ltb, not, not-false, not-true, refl, subst, suc, sym, true, zero, ℕ}
+use Rattle.laws.specs.Prelude.{Answer, Bool, List, Request, [], ◌%◌, ◌++◌, ◌+◌, ◌-◌, ◌/◌, ◌<◌, ◌∙◌, ◌∷◌, ◌≡◌, ◌≤◌, ap, ap₂, arith, cond, count_of, eqb, false, le-leb, le-ltb, length, length-append, lt-leb, lt-ltb, not, not-false, not-true, refl, subst, suc, sym, true, zero, ℕ, Result, Refusal}
 use mathlib.Core.List.{append_assoc, append-nil}
 use Rattle.tree_clock_model.specs.Prelude.{CycleOutcome, DrainOutcome, cleared_machine, cycle_outcome, cycled, drain_outcome, drains, fresh}
 use Rattle.tree_clock_model.specs.declared.State.{State}
@@ -9,12 +9,10 @@ use Rattle.trace_model.proofs.Lines.{bad-short, end_short, line-short}
 use Rattle.trace_model.specs.Format.{bad_line, bad_trace, cut_record, end_line, entry_at, header_of, line_of, longest_line, record_bytes, records_from, records_of}
 use Rattle.trace_model.specs.Play.{after, begun, carry, closing, ending, Makes, opening, piece_of, piece_run, played, run, Run, shut, stands, Step, turn, while_live}
 use Rattle.trace_model.specs.Program.{end_of, next_number}
+use Rattle.std.specs.Prelude.{None, Option, Some}
 use Rattle.trace_model.specs.declared.Header.{Header}
-use Rattle.trace_model.specs.declared.Header.TheVariants.{Shape, Wrong}
 use Rattle.trace_model.specs.declared.Piece.{Piece}
 use Rattle.trace_model.specs.declared.Playing.{Playing}
-use Rattle.trace_model.specs.declared.Record.{Record}
-use Rattle.trace_model.specs.declared.Record.TheVariants.{Bad, Good}
 use Rattle.trace_model.specs.declared.Version.{Version}
 use Rattle.trace_model.specs.declared.Version.TheVariants.{One}
 use Rattle.tree_model.specs.Prelude.{held_count}
@@ -78,16 +76,16 @@ module _ (f : Step) (p : Playing) (ws : List ℕ) where
 module _ (p : Playing) (ws : List ℕ) (i : ℕ) (out : List ℕ) (room : i + longest_line ≤ length out) (q : Piece) where
   pub good-made : (r : Request) (a : Answer) (vs : List ℕ) (s : State) (n w : ℕ) (o : List ℕ)
       → cycle_outcome a vs s ≡ cycled p.order p.levels r p.state ws → n ≡ next_number p.number → Laid out i (line_of p.version n r a) o w
-      → (q.play ≡ carry p s n true) × (q.written ≡ w) → Makes (turn (Good r) p ws) i out q vs o
+      → (q.play ≡ carry p s n true) × (q.written ≡ w) → Makes (turn (Some r) p ws) i out q vs o
   unfolding turn
   good-made r a vs s n w o e en l c =
-      let done : run vs (carry p s n true) (line_of p.version n r a) ≡ turn (Good r) p ws =
+      let done : run vs (carry p s n true) (line_of p.version n r a) ≡ turn (Some r) p ws =
       ap (λ (n : ℕ). run vs (carry p s n true) (line_of p.version n r a)) en
       ∙ ap (λ (o : CycleOutcome). run o.words (carry p o.state (next_number p.number) true) (line_of p.version (next_number p.number) r o.answer)) e in
       makes-same _ i out q vs o _ done
       (makes-laid (run vs (carry p s n true) (line_of p.version n r a)) i out q vs o c.0 refl (c.1 ∙ l.0, l.1) (omega (arith, line-short p.version n r a)))
 
-  pub bad-made : (o : List ℕ) → (q.play ≡ carry p p.state p.number false) × Laid out i (bad_line (next_number p.number)) o q.written → Makes (turn Bad p ws) i out q ws o
+  pub bad-made : (o : List ℕ) → (q.play ≡ carry p p.state p.number false) × Laid out i (bad_line (next_number p.number)) o q.written → Makes (turn None p ws) i out q ws o
   unfolding turn
   bad-made o c = makes-laid _ i out q ws o c.0 refl c.1 (omega (arith, bad-short (next_number p.number)))
 
@@ -95,44 +93,44 @@ module _ (q : Piece) (ws out : List ℕ) (room : q.written + longest_line ≤ le
   pub record-ended : (f : Step) → not q.play.live ≡ true → Makes (while_live f q.play ws) q.written out q ws out
   record-ended f e = makes-same _ q.written out q ws out _ (sym (live-off f q.play ws e)) (makes_none q.play ws q.written out q refl refl (omega arith))
 
-  module _ (bs : List ℕ) (at : ℕ) (lives : not q.play.live ≡ false) (x : Record) (found : x ≡ entry_at q.play.version bs at) (r : Piece) where
-    pub record-bad : (o : List ℕ) → x ≡ Bad
+  module _ (bs : List ℕ) (at : ℕ) (lives : not q.play.live ≡ false) (x : Option Request) (found : x ≡ entry_at q.play.version bs at) (r : Piece) where
+    pub record-bad : (o : List ℕ) → x ≡ None
         → (r.play ≡ carry q.play q.play.state q.play.number false) × Laid out q.written (bad_line (next_number q.play.number)) o r.written
         → Makes (while_live (turn (entry_at q.play.version bs at)) q.play ws) q.written out r ws o
     record-bad o e c =
-        makes-same _ q.written out r ws o _ (ap (λ (x : Record). turn x q.play ws) (sym e ∙ found) ∙ sym (live_on (turn (entry_at q.play.version bs at)) q.play ws lives))
+        makes-same _ q.written out r ws o _ (ap (λ (x : Option Request). turn x q.play ws) (sym e ∙ found) ∙ sym (live_on (turn (entry_at q.play.version bs at)) q.play ws lives))
         (bad-made q.play ws q.written out room r o c)
 
-    pub record-good : (request : Request) (vs o : List ℕ) → x ≡ Good request → Makes (turn (Good request) q.play ws) q.written out r vs o
+    pub record-good : (request : Request) (vs o : List ℕ) → x ≡ Some request → Makes (turn (Some request) q.play ws) q.written out r vs o
         → Makes (while_live (turn (entry_at q.play.version bs at)) q.play ws) q.written out r vs o
     record-good request vs o e c =
-        makes-same _ q.written out r vs o _ (ap (λ (x : Record). turn x q.play ws) (sym e ∙ found) ∙ sym (live_on (turn (entry_at q.play.version bs at)) q.play ws lives)) c
+        makes-same _ q.written out r vs o _ (ap (λ (x : Option Request). turn x q.play ws) (sym e ∙ found) ∙ sym (live_on (turn (entry_at q.play.version bs at)) q.play ws lives)) c
 
 -- ---- so many records
-turn-short : (e : Record) (p : Playing) (ws : List ℕ) → length (while_live (turn e) p ws).text ≤ longest_line
+turn-short : (e : Option Request) (p : Playing) (ws : List ℕ) → length (while_live (turn e) p ws).text ≤ longest_line
 unfolding while_live turn
 turn-short e p ws = go p.live e
   where
-    go : (b : Bool) (e : Record) → length (cond b (turn e p ws) (stands p ws)).text ≤ longest_line
+    go : (b : Bool) (e : Option Request) → length (cond b (turn e p ws) (stands p ws)).text ≤ longest_line
     go false e = omega arith
-    go true Bad = bad-short (next_number p.number)
-    go true (Good r) = line-short p.version (next_number p.number) r (cycled p.order p.levels r p.state ws).answer
+    go true None = bad-short (next_number p.number)
+    go true (Some r) = line-short p.version (next_number p.number) r (cycled p.order p.levels r p.state ws).answer
 
-pub written_next : (e : Record) (q : Piece) (ws o : List ℕ) (r : Piece) (ws' o' : List ℕ)
+pub written_next : (e : Option Request) (q : Piece) (ws o : List ℕ) (r : Piece) (ws' o' : List ℕ)
     → Makes (while_live (turn e) q.play ws) q.written o r ws' o' → r.written ≤ q.written + longest_line
 written_next e q ws o r ws' o' m = omega (arith, m.written, turn-short e q.play ws)
 
 -- no step changes the version
-turn-version : (e : Record) (p : Playing) (ws : List ℕ) → (while_live (turn e) p ws).play.version ≡ p.version
+turn-version : (e : Option Request) (p : Playing) (ws : List ℕ) → (while_live (turn e) p ws).play.version ≡ p.version
 unfolding while_live turn
 turn-version e p ws = go p.live e
   where
-    go : (b : Bool) (e : Record) → (cond b (turn e p ws) (stands p ws)).play.version ≡ p.version
+    go : (b : Bool) (e : Option Request) → (cond b (turn e p ws) (stands p ws)).play.version ≡ p.version
     go false e = refl
-    go true Bad = refl
-    go true (Good r) = refl
+    go true None = refl
+    go true (Some r) = refl
 
-pub played-version : (es : List Record) (p : Playing) (ws : List ℕ) → (played es p ws).play.version ≡ p.version
+pub played-version : (es : List (Option Request)) (p : Playing) (ws : List ℕ) → (played es p ws).play.version ≡ p.version
 unfolding played after
 played-version [] p ws = refl
 played-version (e ∷ es) p ws = let u : Run = while_live (turn e) p ws in played-version es u.play u.words ∙ turn-version e p ws
@@ -171,7 +169,7 @@ module _ (bs : List ℕ) (p₀ : Playing) (ws₀ out₀ : List ℕ) where
         → Makes (while_live (turn (entry_at q.play.version bs at)) q.play ws) q.written o r ws' o' → At (left - 1) (at + size) r ws' o'
     unfolding played
     at_next left at q ws o a h r ws' o' m =
-        let x : Record = entry_at v bs at in
+        let x : Option Request = entry_at v bs at in
         let m' : Makes (while_live (turn x) q.play ws) q.written o r ws' o' =
         subst (λ (w : Version). Makes (while_live (turn (entry_at w bs at)) q.play ws) q.written o r ws' o') a.same m in
         record {
@@ -180,7 +178,7 @@ module _ (bs : List ℕ) (p₀ : Playing) (ws₀ out₀ : List ℕ) where
           same = ap (λ (p : Playing). p.version) m'.play ∙ turn-version x q.play ws ∙ a.same;
           rest = after-after a.done (while_live (turn x)) (played (records_from v (left - 1) (at + size) bs))
               ∙ ap (λ (n : ℕ). after a.done (played (x ∷ records_from v (left - 1) (at + n) bs))) read
-              ∙ ap (λ (es : List Record). after a.done (played es)) (sym (records-next v left at bs h)) ∙ a.rest;
+              ∙ ap (λ (es : List (Option Request)). after a.done (played es)) (sym (records-next v left at bs h)) ∙ a.rest;
         }
 
   pub at-end : (left at : ℕ) (q : Piece) (ws o : List ℕ) → At left at q ws o → left ≡ 0 → Makes all 0 out₀ q ws o
@@ -189,7 +187,7 @@ module _ (bs : List ℕ) (p₀ : Playing) (ws₀ out₀ : List ℕ) where
       makes-same _ 0 out₀ q ws o _ (sym (after-stands a.done) ∙ subst (λ (k : ℕ). after a.done (played (records_from v k at bs)) ≡ all) e a.rest) a.made
 
 -- ---- behind the whole records
-pub played-ended : (es : List Record) (p : Playing) (ws : List ℕ) → p.live ≡ false → played es p ws ≡ stands p ws
+pub played-ended : (es : List (Option Request)) (p : Playing) (ws : List ℕ) → p.live ≡ false → played es p ws ≡ stands p ws
 unfolding played while_live
 played-ended [] p ws e = refl
 played-ended (x ∷ es) p ws e = ap (λ (b : Bool). after (cond b (turn x p ws) (stands p ws)) (played es)) e ∙ stands_after p ws (played es) ∙ played-ended es p ws e
@@ -215,13 +213,13 @@ module _ (p : Playing) (ws : List ℕ) where
   rest-off cut last e =
       ap (λ (u : Run). after u (closing last)) (played-ended (cut_record cut) p ws e) ∙ stands_after p ws (closing last) ∙ closing-ended last p ws e
 
-  bad-first : not p.live ≡ false → played (cut_record true) p ws ≡ turn Bad p ws
+  bad-first : not p.live ≡ false → played (cut_record true) p ws ≡ turn None p ws
   unfolding played cut_record
-  bad-first e = ap (λ (u : Run). after u stands) (live_on (turn Bad) p ws e) ∙ after-stands (turn Bad p ws)
+  bad-first e = ap (λ (u : Run). after u stands) (live_on (turn None) p ws e) ∙ after-stands (turn None p ws)
 
-  rest-bad : (last : Bool) → not p.live ≡ false → rest_of true last p ws ≡ turn Bad p ws
+  rest-bad : (last : Bool) → not p.live ≡ false → rest_of true last p ws ≡ turn None p ws
   unfolding turn
-  rest-bad last e = ap (λ (u : Run). after u (closing last)) (bad-first e) ∙ after-ended (turn Bad p ws) refl last
+  rest-bad last e = ap (λ (u : Run). after u (closing last)) (bad-first e) ∙ after-ended (turn None p ws) refl last
 
   rest-none : (last : Bool) → rest_of false last p ws ≡ closing last p ws
   unfolding played cut_record
@@ -259,7 +257,7 @@ module _ (q : Piece) (ws out : List ℕ) (room : q.written + longest_line ≤ le
 
 -- ---- the drain
 pub end-made : (p : Playing) (ws : List ℕ) (i : ℕ) (out : List ℕ) → i + longest_line ≤ length out
-    → (a : Answer) (n : ℕ) (left : Bool) (vs : List ℕ) (s : State) (c : Count) (h w : ℕ) (o : List ℕ) (q : Piece)
+    → (a : Answer) (n : ℕ) (left : Bool) (vs : List ℕ) (s : State) (c : Result ℕ Refusal) (h w : ℕ) (o : List ℕ) (q : Piece)
     → drain_outcome a n left vs s ≡ drains p.order p.levels p.levels p.state ws → c ≡ held_count p.order p.levels vs → h ≡ count_of c
     → Laid out i (end_line h n) o w → (q.play ≡ carry p s p.number false) × (q.written ≡ w) → Makes (ending p ws) i out q vs o
 unfolding ending end_of
@@ -271,11 +269,11 @@ end-made p ws i out room a n left vs s c h w o q e ec eh l k =
     (makes-laid (run vs (carry p s p.number false) (end_line h n)) i out q vs o k.0 refl (k.1 ∙ l.0, l.1) (omega (arith, end_short h n)))
 
 -- ---- the two calls
-pub opened-made : (v : Version) (m levels : ℕ) (ws : List ℕ) (a : Answer) (vs : List ℕ) (s : State) → cycle_outcome a vs s ≡ cleared_machine m levels ws
-    → (◌≡◌ {A = Playing} (record { version = v; order = m; levels = levels; state = s; number = 0; live = true }) (opening (Shape v m levels) ws).play) × (vs ≡ (opening (Shape v m levels) ws).words)
+pub opened-made : (h : Header) (ws : List ℕ) (a : Answer) (vs : List ℕ) (s : State) → cycle_outcome a vs s ≡ cleared_machine h.order h.levels ws
+    → (◌≡◌ {A = Playing} (record { version = h.version; order = h.order; levels = h.levels; state = s; number = 0; live = true }) (opening (Some h) ws).play) × (vs ≡ (opening (Some h) ws).words)
 unfolding opening
-opened-made v m levels ws a vs s e = (
-  ap (λ (o : CycleOutcome). record { version = v; order = m; levels = levels; state = o.state; number = 0; live = true }) e,
+opened-made h ws a vs s e = (
+  ap (λ (o : CycleOutcome). record { version = h.version; order = h.order; levels = h.levels; state = o.state; number = 0; live = true }) e,
   ap (λ (o : CycleOutcome). o.words) e,
 )
 
@@ -287,23 +285,23 @@ module _ (head ws out : List ℕ) (q : Piece) where
   unfolding begun
   begun-none h c = rw (lt-leb longest_line (length out) h) (makes_none shut ws 0 out q c.0 c.1 (omega arith))
 
-  module _ (room : longest_line ≤ length out) (h : Header) (told : h ≡ header_of head) where
-    begun-as : (x : Header) → h ≡ x → opening x ws ≡ begun head (length out) ws
+  module _ (room : longest_line ≤ length out) (h : Option Header) (told : h ≡ header_of head) where
+    begun-as : (x : Option Header) → h ≡ x → opening x ws ≡ begun head (length out) ws
     unfolding begun
-    begun-as x e = rw (le-leb longest_line (length out) room) (ap (λ (x : Header). opening x ws) (sym e ∙ told))
+    begun-as x e = rw (le-leb longest_line (length out) room) (ap (λ (x : Option Header). opening x ws) (sym e ∙ told))
 
-    pub begun-wrong : (w : ℕ) (o : List ℕ) → h ≡ Wrong → Laid out 0 bad_trace o w → (q.play ≡ shut) × (q.written ≡ w) → Makes (begun head (length out) ws) 0 out q ws o
+    pub begun-wrong : (w : ℕ) (o : List ℕ) → h ≡ None → Laid out 0 bad_trace o w → (q.play ≡ shut) × (q.written ≡ w) → Makes (begun head (length out) ws) 0 out q ws o
     unfolding opening
-    begun-wrong w o e l c = makes-same _ 0 out q ws o _ (begun-as Wrong e) (makes-laid _ 0 out q ws o c.0 refl (c.1 ∙ l.0, l.1) (omega arith))
+    begun-wrong w o e l c = makes-same _ 0 out q ws o _ (begun-as None e) (makes-laid _ 0 out q ws o c.0 refl (c.1 ∙ l.0, l.1) (omega arith))
 
-    pub begun-shape : (v : Version) (m levels : ℕ) (vs : List ℕ) → h ≡ Shape v m levels
-        → (q.play ≡ (opening (Shape v m levels) ws).play) × (vs ≡ (opening (Shape v m levels) ws).words) × (q.written ≡ 0) → Makes (begun head (length out) ws) 0 out q vs out
+    pub begun-shape : (s : Header) (vs : List ℕ) → h ≡ Some s → (q.play ≡ (opening (Some s) ws).play) × (vs ≡ (opening (Some s) ws).words) × (q.written ≡ 0)
+        → Makes (begun head (length out) ws) 0 out q vs out
     unfolding opening overlay
-    begun-shape v m levels vs e c =
-        makes-same _ 0 out q vs out _ (begun-as (Shape v m levels) e)
+    begun-shape s vs e c =
+        makes-same _ 0 out q vs out _ (begun-as (Some s) e)
         (record { play = c.0; words = c.1; written = c.2; text = refl; within = omega (arith, c.2) })
 
-pub played-append : (es fs : List Record) (p : Playing) (ws : List ℕ) → played (es ++ fs) p ws ≡ after (played es p ws) (played fs)
+pub played-append : (es fs : List (Option Request)) (p : Playing) (ws : List ℕ) → played (es ++ fs) p ws ≡ after (played es p ws) (played fs)
 unfolding played after
 played-append [] fs p ws = sym (stands_after p ws (played fs))
 played-append (x ∷ es) fs p ws =
@@ -317,7 +315,7 @@ module _ (bs : List ℕ) (last : Bool) (p : Playing) (ws out : List ℕ) where
   abbrev size : ℕ
   size = record_bytes p.version
 
-  abbrev whole : List Record
+  abbrev whole : List (Option Request)
   whole = records_from p.version (length bs / size) 0 bs
 
   abbrev cut_by : ℕ → Bool

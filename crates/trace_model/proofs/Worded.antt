@@ -1,5 +1,5 @@
 -- Every line of a played trace has a word: from a cleared machine no cycle is refused 1, 2, 4, 8 or 12. The last line says how many are stored.
-use Rattle.laws.specs.Prelude.{BadPort, BadRank, BadShape, Bool, Damaged, Empty, Full, List, NoHeap, NoTag, Refusal, Refused, Request, TooSoon, [], ◌&&◌, ◌++◌, ◌∙◌, ◌∷◌, ◌≡◌, ◌≤◌, ◌⊎◌, ap, ap₂, arith, cond_both, count_of, drop, false, length, length-replicate, number_of, pred, refl, refusal_number, subst, suc, sym, zero, ℕ, ⊎_elim}
+use Rattle.laws.specs.Prelude.{BadPort, BadRank, BadShape, Bool, Damaged, Empty, Full, List, NoHeap, NoTag, Refusal, Request, TooSoon, [], ◌&&◌, ◌++◌, ◌∙◌, ◌∷◌, ◌≡◌, ◌≤◌, ◌⊎◌, ap, ap₂, arith, cond_both, count_of, drop, false, length, length-replicate, number_of, pred, refl, refusal_number, subst, suc, sym, zero, ℕ, ⊎_elim, Err}
 use Rattle.tree_clock_model.proofs.Laws.{cycled-fine, drain-left, drain-state, drained-fine, drained-left, held-says, no-damage-sound, numbers, shape-kept, undamaged}
 use Rattle.tree_clock_model.specs.Prelude.{CycleOutcome, DrainOutcome, cleared_machine, cycle_run, cycled, drains, pending, pops_or_replaces, ran, rule_marked, runs}
 use Rattle.tree_clock_model.specs.declared.State.{State}
@@ -8,10 +8,9 @@ use Rattle.trace_model.proofs.Bytes.{header-only, taken-shape, trace-shape}
 use Rattle.trace_model.specs.Format.{done_word, end_line, header_bytes, header_of, out_word, records_of, refusal_word, word_of}
 use Rattle.trace_model.specs.Program.{empty_store, end_of, store_words}
 use Rattle.trace_model.specs.Promise.{Silent, TraceWorded, Worded, WordedBy}
+use Rattle.std.specs.Prelude.{None, Option, Some}
 use Rattle.trace_model.specs.declared.Header.{Header}
-use Rattle.trace_model.specs.declared.Header.TheVariants.{Shape as Shaped, Wrong}
-use Rattle.trace_model.specs.declared.Record.{Record}
-use Rattle.trace_model.specs.declared.Record.TheVariants.{Bad, Good}
+use Rattle.trace_model.specs.Format.{header}
 use Rattle.trace_model.specs.declared.Version.{Version}
 use Rattle.tree_model.proofs.Laws.{comes, is-shape}
 use Rattle.tree_model.specs.Prelude.{Comes, Ruling, Shape, empty, full, held_count, idles, lacks, no-tag, puts, room, rule, ruling, stored_count, swaps, takes}
@@ -33,7 +32,7 @@ comes-word v c nd r g (lacks x u h) e = omega (arith, ap length e)
 rule_marked-word : (v : Version) (mark : Bool) (r : Request) (c : ℕ) (nd : List Slot) → word_of v r (rule_marked mark r (rule c r nd)).answer ≡ [] → ⊥
 unfolding rule_marked word_of refusal_word
 rule_marked-word v mark r c nd =
-    cond_both (λ (g : Ruling). word_of v r g.answer ≡ [] → ⊥) (mark && pops_or_replaces r) (ruling (Refused TooSoon) Nothing) (rule c r nd) (λ t e. omega (arith, ap length e))
+    cond_both (λ (g : Ruling). word_of v r g.answer ≡ [] → ⊥) (mark && pops_or_replaces r) (ruling (Err TooSoon) Nothing) (rule c r nd) (λ t e. omega (arith, ap length e))
     (λ t. comes-word v c nd r (rule c r nd) (comes c r nd))
 
 pred-le : (n : ℕ) → pred n ≤ n
@@ -58,7 +57,7 @@ module _ (m levels : ℕ) (ws : List ℕ) (sh : Shape m levels (length ws)) wher
   words_at rs = (ran m levels rs ws).words
 
   -- NONE SILENT: after any list of cycles no cycle is refused 1, 2, 4, 8 or 12
-  pub none-silent : (rs : List Request) (r : Request) (n : Refusal) → Silent n → (cycled m levels r (state_at rs) (words_at rs)).answer ≡ Refused n → ⊥
+  pub none-silent : (rs : List Request) (r : Request) (n : Refusal) → Silent n → (cycled m levels r (state_at rs) (words_at rs)).answer ≡ Err n → ⊥
   none-silent rs r n q e = go n q (sym (ap number_of e)) (numbers m ws rs levels sh r)
     where
       other : (a k : ℕ) → k ≡ a → (k ≡ 0 → ⊥) → (k ≡ 3 → ⊥) → (k ≡ 5 → ⊥) → (k ≡ 6 → ⊥) → (k ≡ 7 → ⊥) → (a ≡ 0) ⊎ (a ≡ 3) ⊎ (a ≡ 5) ⊎ (a ≡ 6) ⊎ (a ≡ 7) → ⊥
@@ -83,10 +82,10 @@ module _ (m levels : ℕ) (ws : List ℕ) (sh : Shape m levels (length ws)) wher
       (is-shape m levels (length (words_at rs)) (shape-kept m ws rs levels sh))
       (no-damage-sound m levels r (state_at rs) (words_at rs) (undamaged m ws rs levels sh r)))) ∙ e)
 
-  worded-from : (v : Version) (es : List Record) (rs : List Request) → Worded v m levels (state_at rs) (words_at rs) es
+  worded-from : (v : Version) (es : List (Option Request)) (rs : List Request) → Worded v m levels (state_at rs) (words_at rs) es
   worded-from v [] rs = tt
-  worded-from v (Bad ∷ es) rs = tt
-  worded-from v (Good r ∷ es) rs =
+  worded-from v (None ∷ es) rs = tt
+  worded-from v (Some r ∷ es) rs =
       let n = run-next m levels rs r (cleared_machine m levels ws).state (cleared_machine m levels ws).words in
       (word_some v rs r, subst (λ (x : State × List ℕ). Worded v m levels x.0 x.1 es) (ap₂ (λ (s : State) (w : List ℕ). (s, w)) n.0 n.1) (worded-from v es (rs ++ (r ∷ []))))
 
@@ -109,14 +108,14 @@ module _ (m levels : ℕ) (ws : List ℕ) (sh : Shape m levels (length ws)) wher
           (ap (pending m levels) (sym d.1) ∙ sym (drain-left m levels levels (state_at rs) (words_at rs) (shape-kept m ws rs levels sh)) ∙ (end-done rs).1)).1
 
 -- ---- the program's shapes
-pub header-shaped : (bs : List ℕ) (v : Version) (m levels : ℕ) → header_of bs ≡ Shaped v m levels → Shape m levels store_words
+pub header-shaped : (bs : List ℕ) (v : Version) (m levels : ℕ) → header_of bs ≡ Some (header v m levels) → Shape m levels store_words
 header-shaped bs v m levels e = trace-shape m levels (taken-shape m levels (header-only bs v m levels e).0)
 
 store_length : length empty_store ≡ store_words
 unfolding empty_store
 store_length = length-replicate {A = ℕ} store_words 0
 
-at_first : (v : Version) (m levels : ℕ) (ws : List ℕ) → Shape m levels (length ws) → (es : List Record) → Worded v m levels (cleared_machine m levels ws).state (cleared_machine m levels ws).words es
+at_first : (v : Version) (m levels : ℕ) (ws : List ℕ) → Shape m levels (length ws) → (es : List (Option Request)) → Worded v m levels (cleared_machine m levels ws).state (cleared_machine m levels ws).words es
 unfolding leaves
 at_first v m levels ws sh es = worded-from m levels ws sh v es []
 
@@ -124,6 +123,6 @@ at_first v m levels ws sh es = worded-from m levels ws sh v es []
 pub worded : (bs : List ℕ) → TraceWorded bs
 worded bs = go (header_of bs) refl
   where
-    go : (h : Header) → header_of bs ≡ h → WordedBy h (drop header_bytes bs)
-    go Wrong e = tt
-    go (Shaped v m levels) e = at_first v m levels empty_store (subst (Shape m levels) (sym store_length) (header-shaped bs v m levels e)) (records_of v (drop header_bytes bs))
+    go : (h : Option Header) → header_of bs ≡ h → WordedBy h (drop header_bytes bs)
+    go None e = tt
+    go (Some h) e = at_first h.version h.order h.levels empty_store (subst (Shape h.order h.levels) (sym store_length) (header-shaped bs h.version h.order h.levels e)) (records_of h.version (drop header_bytes bs))

@@ -1,8 +1,8 @@
 -- The trace format in the words of 01 and 02, byte by byte. `proofs/Bytes.antt` shows that header and records are these.
 use Rattle.std.specs.Prelude.{◌*◌, ◌+◌, ◌<◌, ◌∷◌, ◌≡◌, ◌≤◌, ◌⊎◌}
 use Rattle.laws.specs.Prelude.{Idle, List, Pop, Push, Replace, element, ℕ}
-use Rattle.trace_model.specs.declared.Record.{Record}
-use Rattle.trace_model.specs.declared.Record.TheVariants.{Bad, Good}
+use Rattle.std.specs.Prelude.{None, Option, Some}
+use Rattle.laws.specs.Prelude.{Request}
 use Rattle.trace_model.specs.declared.Version.{Version}
 use Rattle.trace_model.specs.declared.Version.TheVariants.{One, Two}
 
@@ -29,16 +29,16 @@ Headless bs = (v : Version) (order levels : ℕ) (records : List ℕ) → Taken 
 
 -- "Codes are 0 idle, 1 push, 2 pop, 3 replace; every other code is a bad record, and so is a 0 or 2 with rank or tag not 0"; "length 0 too on codes 0
 -- and 2" (02 [9])
-pub data Says (rank tag length : ℕ) : ℕ → Record → Type 0 where
-  idle : rank ≡ 0 → tag ≡ 0 → length ≡ 0 → Says rank tag length 0 (Good Idle)
-  push : Says rank tag length 1 (Good (Push (element rank tag length)))
-  pop : rank ≡ 0 → tag ≡ 0 → length ≡ 0 → Says rank tag length 2 (Good Pop)
-  replace : Says rank tag length 3 (Good (Replace (element rank tag length)))
-  other : (code : ℕ) → 3 < code → Says rank tag length code Bad
-  idle-with : ((rank ≡ 0 → ⊥) ⊎ ((tag ≡ 0 → ⊥) ⊎ (length ≡ 0 → ⊥))) → Says rank tag length 0 Bad
-  pop-with : ((rank ≡ 0 → ⊥) ⊎ ((tag ≡ 0 → ⊥) ⊎ (length ≡ 0 → ⊥))) → Says rank tag length 2 Bad
+pub data Says (rank tag length : ℕ) : ℕ → Option Request → Type 0 where
+  idle : rank ≡ 0 → tag ≡ 0 → length ≡ 0 → Says rank tag length 0 (Some Idle)
+  push : Says rank tag length 1 (Some (Push (element rank tag length)))
+  pop : rank ≡ 0 → tag ≡ 0 → length ≡ 0 → Says rank tag length 2 (Some Pop)
+  replace : Says rank tag length 3 (Some (Replace (element rank tag length)))
+  other : (code : ℕ) → 3 < code → Says rank tag length code None
+  idle-with : ((rank ≡ 0 → ⊥) ⊎ ((tag ≡ 0 → ⊥) ⊎ (length ≡ 0 → ⊥))) → Says rank tag length 0 None
+  pop-with : ((rank ≡ 0 → ⊥) ⊎ ((tag ≡ 0 → ⊥) ⊎ (length ≡ 0 → ⊥))) → Says rank tag length 2 None
 
 -- every code with any numbers says something
 pub record Said (rank tag length code : ℕ) : Type 0 where
-  pub entry : Record
+  pub entry : Option Request
   pub says : Says rank tag length code entry

@@ -1,11 +1,9 @@
 -- The trace's bytes: header, records, and the text of a line.
 use Rattle.std.specs.Prelude.{◌%◌, ◌&&◌, ◌*◌, ◌++◌, ◌+◌, ◌/◌, ◌∷◌}
-use Rattle.laws.specs.Prelude.{Answer, BadPort, BadRank, BadShape, Bool, Damaged, Done, Element, Empty, Full, Idle, List, NoHeap, NoTag, Out, Pop, Push, Refusal, Refused, Replace, Request, TooSoon, [], cond, element, eqb, get_or, is_blank, leb, length, not, suc, zero, ℕ}
+use Rattle.laws.specs.Prelude.{Answer, BadPort, BadRank, BadShape, Bool, Damaged, Element, Empty, Full, Idle, List, NoHeap, NoTag, Pop, Push, Refusal, Replace, Request, TooSoon, [], cond, element, eqb, get_or, is_blank, leb, length, not, suc, zero, ℕ, Ok, None, Some, Err}
 use Rattle.text.specs.Text.{bytes_of, decimal}
+use Rattle.std.specs.Prelude.{None, Option, Some}
 use Rattle.trace_model.specs.declared.Header.{Header}
-use Rattle.trace_model.specs.declared.Header.TheVariants.{Shape, Wrong}
-use Rattle.trace_model.specs.declared.Record.{Record}
-use Rattle.trace_model.specs.declared.Record.TheVariants.{Bad, Good}
 use Rattle.trace_model.specs.declared.Version.{Version}
 use Rattle.trace_model.specs.declared.Version.TheVariants.{One, Two}
 use Rattle.tree_model.specs.Prelude.{order_ok, room}
@@ -39,9 +37,9 @@ unfoldable pub out_word : Version → Element → List ℕ
 out_word v e = bytes_of "out " ++ (decimal e.rank.0 ++ (bytes_of " " ++ (decimal e.tag.0 ++ length_word v e.length.0)))
 
 unfoldable pub word_of : Version → Request → Answer → List ℕ
-word_of v r Done = done_word r
-word_of v r (Out e) = out_word v e
-word_of v r (Refused n) = refusal_word n
+word_of v r (Ok None) = done_word r
+word_of v r (Ok (Some e)) = out_word v e
+word_of v r (Err n) = refusal_word n
 
 -- a record's number, a space, the word, and a newline
 unfoldable pub line_of : Version → ℕ → Request → Answer → List ℕ
@@ -86,12 +84,15 @@ trace_shape m levels = order_ok m && (leb 1 levels && leb (room m levels) trace_
 abbrev pub version_at : List ℕ → ℕ → ℕ
 version_at bs i = byte_at bs i + 256 * byte_at bs (i + 1)
 
--- a shape in the version of this number; there are two
-unfoldable pub headed : ℕ → ℕ → ℕ → Header
-headed n m levels = cond (eqb n 1) (Shape One m levels) (cond (eqb n 2) (Shape Two m levels) Wrong)
+abbrev pub header : Version → ℕ → ℕ → Header
+header v m levels = record { version = v; order = m; levels = levels }
 
-unfoldable pub header_of : List ℕ → Header
-header_of bs = cond (leb header_bytes (length bs) && (sign_ok bs && trace_shape (byte_at bs 5) (byte_at bs 6))) (headed (version_at bs 3) (byte_at bs 5) (byte_at bs 6)) Wrong
+-- a shape in the version of this number; there are two
+unfoldable pub headed : ℕ → ℕ → ℕ → Option Header
+headed n m levels = cond (eqb n 1) (Some (header One m levels)) (cond (eqb n 2) (Some (header Two m levels)) None)
+
+unfoldable pub header_of : List ℕ → Option Header
+header_of bs = cond (leb header_bytes (length bs) && (sign_ok bs && trace_shape (byte_at bs 5) (byte_at bs 6))) (headed (version_at bs 3) (byte_at bs 5) (byte_at bs 6)) None
 
 -- ---- records "of 9 bytes: code, rank, tag, low bytes first"; "Trace version 2 has 13-byte records" (02 [9])
 abbrev pub record_bytes : Version → ℕ
@@ -108,28 +109,28 @@ length_at Two bs i = number_at bs (i + 9)
 
 -- "Codes are 0 idle, 1 push, 2 pop, 3 replace; every other code is a bad record, and so is a 0 or 2 with rank or tag not 0"; "length 0
 -- too on codes 0 and 2"
-abbrev pub only_blank : Element → Request → Record
-only_blank e r = cond (is_blank e) (Good r) Bad
+abbrev pub only_blank : Element → Request → Option Request
+only_blank e r = cond (is_blank e) (Some r) None
 
-unfoldable pub entry_of : ℕ → Element → Record
+unfoldable pub entry_of : ℕ → Element → Option Request
 entry_of code e =
     cond (eqb code 0) (only_blank e Idle)
-    (cond (eqb code 1) (Good (Push e))
+    (cond (eqb code 1) (Some (Push e))
     (cond (eqb code 2) (only_blank e Pop)
-    (cond (eqb code 3) (Good (Replace e)) Bad)))
+    (cond (eqb code 3) (Some (Replace e)) None)))
 
-unfoldable pub entry_at : Version → List ℕ → ℕ → Record
+unfoldable pub entry_at : Version → List ℕ → ℕ → Option Request
 entry_at v bs i = entry_of (byte_at bs i) (element (number_at bs (i + 1)) (number_at bs (i + 5)) (length_at v bs i))
 
 -- so many whole records, the first of them at i
-unfoldable pub records_from : Version → ℕ → ℕ → List ℕ → List Record
+unfoldable pub records_from : Version → ℕ → ℕ → List ℕ → List (Option Request)
 records_from v zero i bs = []
 records_from v (suc k) i bs = entry_at v bs i ∷ records_from v k (i + record_bytes v) bs
 
 -- "and so is .. a cut record"
-unfoldable pub cut_record : Bool → List Record
-cut_record cut = cond cut (Bad ∷ []) []
+unfoldable pub cut_record : Bool → List (Option Request)
+cut_record cut = cond cut (None ∷ []) []
 
 -- all records of these bytes; what is left over is one that is cut
-unfoldable pub records_of : Version → List ℕ → List Record
+unfoldable pub records_of : Version → List ℕ → List (Option Request)
 records_of v bs = records_from v (length bs / record_bytes v) 0 bs ++ cut_record (not (eqb (length bs % record_bytes v) 0))

@@ -6,12 +6,11 @@ use Rattle.tree_clock_model.specs.declared.State.{State}
 use Rattle.text.specs.Text.{overlay}
 use Rattle.trace_model.specs.Format.{bad_line, bad_trace, header_bytes, header_of, line_of, longest_line, record_bytes, records_of}
 use Rattle.trace_model.specs.Program.{empty_store, end_of, next_number}
+use Rattle.std.specs.Prelude.{None, Option, Some}
 use Rattle.trace_model.specs.declared.Header.{Header}
-use Rattle.trace_model.specs.declared.Header.TheVariants.{Shape, Wrong}
+use Rattle.laws.specs.Prelude.{Request}
 use Rattle.trace_model.specs.declared.Piece.{Piece}
 use Rattle.trace_model.specs.declared.Playing.{Playing}
-use Rattle.trace_model.specs.declared.Record.{Record}
-use Rattle.trace_model.specs.declared.Record.TheVariants.{Bad, Good}
 use Rattle.trace_model.specs.declared.Version.TheVariants.{One}
 
 -- what a step leaves: the words of the store, the play that is carried on, and the text that it writes
@@ -46,14 +45,14 @@ abbrev pub carry : Playing → State → ℕ → Bool → Playing
 carry p s n live = record { version = p.version; order = p.order; levels = p.levels; state = s; number = n; live = live }
 
 -- a good record is a cycle and its line; a bad one ends the play
-unfoldable pub turn : Record → Step
-turn Bad p ws = run ws (carry p p.state p.number false) (bad_line (next_number p.number))
-turn (Good r) p ws =
+unfoldable pub turn : Option Request → Step
+turn None p ws = run ws (carry p p.state p.number false) (bad_line (next_number p.number))
+turn (Some r) p ws =
     let o = cycled p.order p.levels r p.state ws in
     let n = next_number p.number in
     run o.words (carry p o.state n true) (line_of p.version n r o.answer)
 
-unfoldable pub played : List Record → Step
+unfoldable pub played : List (Option Request) → Step
 played [] p ws = stands p ws
 played (e ∷ es) p ws = after (while_live (turn e) p ws) (played es)
 
@@ -73,11 +72,11 @@ abbrev pub shut : Playing
 shut = record { version = One; order = 0; levels = 0; state = fresh; number = 0; live = false }
 
 -- the header: the line bad trace, or a cleared machine
-unfoldable pub opening : Header → List ℕ → Run
-opening Wrong ws = run ws shut bad_trace
-opening (Shape v m levels) ws =
-    let c = cleared_machine m levels ws in
-    run c.words (record { version = v; order = m; levels = levels; state = c.state; number = 0; live = true }) []
+unfoldable pub opening : Option Header → List ℕ → Run
+opening None ws = run ws shut bad_trace
+opening (Some h) ws =
+    let c = cleared_machine h.order h.levels ws in
+    run c.words (record { version = h.version; order = h.order; levels = h.levels; state = c.state; number = 0; live = true }) []
 
 -- the buffer has room for any line; without it nothing is begun
 unfoldable pub begun : List ℕ → ℕ → List ℕ → Run

@@ -4,10 +4,9 @@ use Rattle.laws.specs.Prelude.{List, [], count_of, drop, replicate, ℕ}
 use Rattle.tree_clock_model.specs.Prelude.{cleared_machine, cycled, drains}
 use Rattle.tree_clock_model.specs.declared.State.{State}
 use Rattle.trace_model.specs.Format.{bad_line, bad_trace, end_line, header_bytes, header_of, line_of, records_of, trace_limit}
+use Rattle.std.specs.Prelude.{None, Option, Some}
 use Rattle.trace_model.specs.declared.Header.{Header}
-use Rattle.trace_model.specs.declared.Header.TheVariants.{Shape, Wrong}
-use Rattle.trace_model.specs.declared.Record.{Record}
-use Rattle.trace_model.specs.declared.Record.TheVariants.{Bad, Good}
+use Rattle.laws.specs.Prelude.{Request}
 use Rattle.trace_model.specs.declared.Version.{Version}
 use Rattle.tree_model.specs.Prelude.{held_count, slot_words}
 
@@ -31,20 +30,20 @@ module _ (m levels : ℕ) where
 
   -- "It runs one cycle a record and writes a line each; then it drains"; "a bad record, after the lines of those before it, gives
   -- bad record N (counted from 1) and no more". Behind n records, with this state and these words
-  unfoldable pub text_from : Version → ℕ → State → List ℕ → List Record → List ℕ
+  unfoldable pub text_from : Version → ℕ → State → List ℕ → List (Option Request) → List ℕ
   text_from v n s ws [] = end_of s ws
-  text_from v n s ws (Bad ∷ es) = bad_line (next_number n)
-  text_from v n s ws (Good r ∷ es) =
+  text_from v n s ws (None ∷ es) = bad_line (next_number n)
+  text_from v n s ws (Some r ∷ es) =
       let o = cycled m levels r s ws in
       line_of v (next_number n) r o.answer ++ text_from v (next_number n) o.state o.words es
 
 -- "A cut or wrong header, or any other shape, gives the one line bad trace"; else the records of the bytes behind it, in the header's
 -- version, are played on a cleared machine
-unfoldable pub text_of : Header → List ℕ → List ℕ
-text_of Wrong rest = bad_trace
-text_of (Shape v m levels) rest =
-    let c = cleared_machine m levels empty_store in
-    text_from m levels v 0 c.state c.words (records_of v rest)
+unfoldable pub text_of : Option Header → List ℕ → List ℕ
+text_of None rest = bad_trace
+text_of (Some h) rest =
+    let c = cleared_machine h.order h.levels empty_store in
+    text_from h.order h.levels h.version 0 c.state c.words (records_of h.version rest)
 
 -- THE PROGRAM
 unfoldable pub trace_text : List ℕ → List ℕ

@@ -5,10 +5,9 @@ use Rattle.tree_clock_model.specs.Prelude.{cleared_machine, cycled}
 use Rattle.tree_clock_model.specs.declared.State.{State}
 use Rattle.trace_model.specs.Format.{header_bytes, header_of, records_of, word_of}
 use Rattle.trace_model.specs.Program.{empty_store}
+use Rattle.std.specs.Prelude.{None, Option, Some}
 use Rattle.trace_model.specs.declared.Header.{Header}
-use Rattle.trace_model.specs.declared.Header.TheVariants.{Shape, Wrong}
-use Rattle.trace_model.specs.declared.Record.{Record}
-use Rattle.trace_model.specs.declared.Record.TheVariants.{Bad, Good}
+use Rattle.laws.specs.Prelude.{Request}
 use Rattle.trace_model.specs.declared.Version.{Version}
 
 -- refusals 1, 2, 4, 8 and 12, which have no word
@@ -24,16 +23,16 @@ Silent BadPort = Unit {0}
 Silent NoHeap = Unit {0}
 
 -- every line that these records write has a word
-abbrev pub Worded : Version → ℕ → ℕ → State → List ℕ → List Record → Type 0
+abbrev pub Worded : Version → ℕ → ℕ → State → List ℕ → List (Option Request) → Type 0
 Worded v m levels s ws [] = Unit {0}
-Worded v m levels s ws (Bad ∷ es) = Unit {0}
-Worded v m levels s ws (Good r ∷ es) =
+Worded v m levels s ws (None ∷ es) = Unit {0}
+Worded v m levels s ws (Some r ∷ es) =
     (word_of v r (cycled m levels r s ws).answer ≡ [] → ⊥) × Worded v m levels (cycled m levels r s ws).state (cycled m levels r s ws).words es
 
-abbrev pub WordedBy : Header → List ℕ → Type 0
-WordedBy Wrong rest = Unit {0}
-WordedBy (Shape v m levels) rest =
-    Worded v m levels (cleared_machine m levels empty_store).state (cleared_machine m levels empty_store).words (records_of v rest)
+abbrev pub WordedBy : Option Header → List ℕ → Type 0
+WordedBy None rest = Unit {0}
+WordedBy (Some h) rest =
+    Worded h.version h.order h.levels (cleared_machine h.order h.levels empty_store).state (cleared_machine h.order h.levels empty_store).words (records_of h.version rest)
 
 -- .. of a whole trace
 abbrev pub TraceWorded : List ℕ → Type 0

@@ -1,7 +1,6 @@
 // The trace program's types. Its definition, from input to output bytes, is in specs/, what follows from it in proofs/.
 #![tactic(auto)]
 
-use strip::Request;
 use tree_clock_model::State;
 
 // The version of a trace: its records are without a length, or with one.
@@ -11,22 +10,16 @@ pub enum Version {
     Two,
 }
 
-// What a trace's first bytes say: nothing that is a header, or version, order and levels.
+// What a trace's first bytes say, where they are a header.
 #[derive(Clone, Copy)]
-pub enum Header {
-    Wrong,
-    Shape(Version, usize, usize),
-}
-
-// What a record's bytes say.
-#[derive(Clone, Copy)]
-pub enum Record {
-    Bad,
-    Good(Request),
+pub struct Header {
+    pub version: Version,
+    pub order: usize,
+    pub levels: usize,
 }
 
 // What is carried from piece to piece: the version, the shape, the machine's state, how many records were played, and whether the play
-// goes on.
+// goes on. It is no Option: `begin` and `play` promise all of a play that has ended too (`Makes`).
 #[derive(Clone, Copy)]
 pub struct Playing {
     pub version: Version,

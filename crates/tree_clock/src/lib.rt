@@ -4,11 +4,11 @@
 
 ghost use Rattle.std.specs.Prelude.{◌≡◌};
 ghost use Rattle.tree_model.specs.Calls.{held_count};
-ghost use Rattle.tree_clock_model.specs.Calls.{cycle_outcome, cycled, fresh, clocked_cleared, drain_outcome, drains};
+ghost use Rattle.tree_clock_model.specs.Calls.{cycle_outcome, cycled, clocked_cleared, drain_outcome, drains};
 
-use strip::{Answer, Count, Element, Refusal, Request};
-use tree_clock_level::left_as;
-use tree_clock_level::shaped::{clear_shaped, cycle_shaped, drain_shaped, report};
+use strip::{Element, Refusal, Request, left_as, report};
+pub use tree_clock_level::shaped::fresh_state;
+use tree_clock_level::shaped::{clear_shaped, cycle_shaped, drain_shaped};
 use tree_clock_model::{Cycled, Drained, State};
 use tree_node::shape::{shape_fits, shape_of};
 
@@ -51,13 +51,6 @@ pub fn replace(store: &mut [u32], order: usize, levels: usize, state: State, x: 
 
 // ---- clear and held
 
-// A state with nothing pending and the mark off, for a machine that was never used.
-pub fn fresh_state() -> State
-    ensures { result ≡ fresh }
-{
-    tree_clock_level::shaped::fresh_state()
-}
-
 // Zeros in the store, nothing pending and the mark off. Refused, the state that was handed over comes back.
 pub fn clear(store: &mut [u32], order: usize, levels: usize, state: State) -> Cycled
     ensures { cycle_outcome result.answer store.new result.state ≡ clocked_cleared order levels state store.old }
@@ -68,13 +61,13 @@ pub fn clear(store: &mut [u32], order: usize, levels: usize, state: State) -> Cy
     }
     let cleared = clear_shaped(store, shape.slots);
     Cycled {
-        answer: Answer::Done,
+        answer: Ok(None),
         state: cleared,
     }
 }
 
 // How many are held, by the root alone: no record is read.
-pub fn held(store: &[u32], order: usize, levels: usize) -> Count
+pub fn held(store: &[u32], order: usize, levels: usize) -> Result<u32, Refusal>
     ensures { result ≡ held_count order levels store.now }
 {
     tree::held(store, order, levels)
@@ -88,7 +81,7 @@ pub fn drain(store: &mut [u32], order: usize, levels: usize, state: State, budge
 {
     let shape = shape_of(order, levels);
     if !shape_fits(shape, store.len()) {
-        return report(Answer::Refused(Refusal::BadShape), 0, false, state);
+        return report(Err(Refusal::BadShape), 0, false, state);
     }
     drain_shaped(store, order, shape.below, shape.room, state, budget)
 }

@@ -1,7 +1,8 @@
 -- A cycle and a clear of a tree whose shape has been tested: each test and what follows it make the outcome that the definitions say.
-use Rattle.laws.specs.Prelude.{Answer, Bool, Damaged, Done, List, Refused, Request, ◌&&◌, ◌*◌, ◌+◌, ◌<◌, ◌∙◌, ◌≡◌, ◌≤◌, and_assoc, and_right, ap, ap₂, arith, false, length, not, not-false, not-true, refl, replicate, suc, sym, true, zero, ℕ}
+use Rattle.std.proofs.Common.{None, Option, Some, is_some}
+use Rattle.laws.specs.Prelude.{Answer, Bool, Damaged, List, Request, ◌&&◌, ◌*◌, ◌+◌, ◌<◌, ◌∙◌, ◌≡◌, ◌≤◌, and_assoc, and_right, ap, ap₂, arith, length, refl, suc, sym, true, zero, ℕ, Ok, None, Err}
 use Rattle.tree_clock_model.proofs.Laws.{few-levels}
-use Rattle.tree_clock_model.specs.Prelude.{CycleOutcome, DrainOutcome, asked_ok, clocked_cleared, cycle_ok, cycle_outcome, cycle_run, cycle_words, cycled, drains, fresh, marks, quiet, record_count, records_after, rule_now, steps_ok, works_of}
+use Rattle.tree_clock_model.specs.Prelude.{CycleOutcome, DrainOutcome, asked_ok, clocked_cleared, cycle_ok, cycle_outcome, cycle_run, cycle_words, cycled, drains, fresh, marks, quiet, records_after, rule_now, steps_ok, works_of}
 use Rattle.tree_clock_model.specs.declared.State.{State}
 use Rattle.tree_clock_level.proofs.Works.{still-ok, still-records, still-words}
 use Rattle.tree_clock_level.specs.Steps.{Rooted, RootPlanned, state_of, turned_by}
@@ -76,7 +77,7 @@ cycle_run-still m k ws o a x mark s u t q none e still f p =
     (ap₂ (λ (v : List ℕ) (rs : List Work). cycle_outcome a v (state_of rs mark)) (still-words m k s.records 0 (0 + 1 * m) (1 * m) ws z)
     (ap (λ (w : Work). records_after m k w 0 s.records (under m k ws 0 1)) (work_none m idle (level_of m ws 0 1) (top k (under m k ws 0 1)) refl) ∙ still-records m k s.records 0 (under m k ws 0 1) z)))
 
-module _ (m k r : ℕ) (q : Request) (s : State) (ws : List ℕ) (shape : shape_ok m (suc k) (length ws) ≡ true) (fits : RoomIs m k r) (h : RootStep) (hears : RulesRoot m r s.mark q ws h) where
+module _ (m k r : ℕ) (q : Request) (s : State) (ws : List ℕ) (shape : shape_ok m (suc k) (length ws) ≡ true) (fits : RoomIs m k r) where
   abbrev g : Ruling
   g = rule_now m (suc k) q s ws
 
@@ -89,25 +90,21 @@ module _ (m k r : ℕ) (q : Request) (s : State) (ws : List ℕ) (shape : shape_
       ∙ ap₂ (λ (i f : ℕ). step_ok m k o (node_of m ws i) (child_of m f ws)) (omega arith) (omega arith)
 
   -- the tests of a cycle: those of the plan, and those of the records
-  tests : (asked_ok m (suc k) q ws && steps_ok m (suc k) g.op s ws) ≡ (h.plan.ok && rest)
+  tests : (p : Option RootStep) → RulesRoot m r s.mark q ws p → (asked_ok m (suc k) q ws && steps_ok m (suc k) g.op s ws) ≡ (is_some p && rest)
   unfolding cycle_ok levels_of
-  tests =
+  tests p hears =
       ap (λ (b : Bool). asked_ok m (suc k) q ws && (b && rest)) (root-fine g.op)
       ∙ sym (and_assoc (asked_ok m (suc k) q ws) (step_ok m k g.op (node_of m ws 0) (child_of m m ws)) rest) ∙ ap (λ (b : Bool). b && rest) (sym (hears k fits).0)
 
-  pub cycle-damaged : (a : Answer) (u : State) → not h.plan.ok ≡ true → (a ≡ Refused Damaged) × (u ≡ s) → cycle_outcome a ws u ≡ cycled m (suc k) q s ws
+  pub cycle-damaged : (a : Answer) (u : State) → RulesRoot m r s.mark q ws None → (a ≡ Err Damaged) × (u ≡ s) → cycle_outcome a ws u ≡ cycled m (suc k) q s ws
   unfolding cycled
-  cycle-damaged a u e p =
-      rw (shape, tests ∙ ap (λ (b : Bool). b && rest) (not-true h.plan.ok e)) (outcome-path a (Refused Damaged) ws u s p)
+  cycle-damaged a u hears p = rw (shape, tests None hears) (outcome-path a (Err Damaged) ws u s p)
 
-  module _ (e : not h.plan.ok ≡ false) where
-    ok : h.plan.ok ≡ true
-    ok = not-false h.plan.ok e
-
+  module _ (h : RootStep) (hears : RulesRoot m r s.mark q ws (Some h)) where
     pub root-planned : RootPlanned m k h ws
     root-planned =
-        let p = (hears k fits).1 ok in
-        let y : (asked_ok m (suc k) q ws && step_ok m k g.op (node_of m ws 0) (child_of m m ws)) ≡ true = sym (hears k fits).0 ∙ ok in (
+        let p = (hears k fits).1 in
+        let y : (asked_ok m (suc k) q ws && step_ok m k g.op (node_of m ws 0) (child_of m m ws)) ≡ true = sym (hears k fits).0 in (
           ap (λ (o : Op). step_ok m k o (node_of m ws 0) (child_of m m ws)) p.1 ∙ and_right (asked_ok m (suc k) q ws) (step_ok m k g.op (node_of m ws 0) (child_of m m ws)) y,
           p.2 ∙ ap (λ (o : Op). node_move m o 0 m ws) (sym p.1),
         )
@@ -115,15 +112,11 @@ module _ (m k r : ℕ) (q : Request) (s : State) (ws : List ℕ) (shape : shape_
     pub cycle_runs : (mark : Bool) (o : CycleOutcome) → mark ≡ marks q h.answer → o ≡ turned_by m k h.answer h.op mark s ws → o ≡ cycled m (suc k) q s ws
     unfolding cycled cycle_run turned_by
     cycle_runs mark o em eo =
-        let p = (hears k fits).1 ok in
+        let p = (hears k fits).1 in
         eo ∙ ap (λ (b : Bool). turned_by m k h.answer h.op b s ws) em
-        ∙ ap₂ (λ (a : Answer) (o : Op). turned_by m k a o (marks q a) s ws) p.0 p.1 ∙ sym (rw (shape, tests ∙ ap (λ (b : Bool). b && rest) ok))
+        ∙ ap₂ (λ (a : Answer) (o : Op). turned_by m k a o (marks q a) s ws) p.0 p.1 ∙ sym (rw (shape, tests (Some h) hears))
 
 -- ---- a clear
-pub fresh-is : (w : Work) → w ≡ idle → state_of (replicate record_count w) false ≡ fresh
-unfolding fresh
-fresh-is w e = ap (λ (w : Work). state_of (replicate record_count w) false) e
-
 -- ---- by the shape that the code has computed, which the words hold
 module _ (m levels : ℕ) (ws : List ℕ) (f : Shape) (shaped : Shaped m levels f) (e : shape_ok m levels (length ws) ≡ true) where
   levels-are : levels ≡ suc f.below
@@ -144,6 +137,6 @@ module _ (m levels : ℕ) (ws : List ℕ) (f : Shape) (shaped : Shaped m levels 
   pub slots-within : slot_words * f.slots ≤ length ws
   slots-within = omega (arith, slots-are, (shape_is m levels (length ws) e).slice)
 
-  pub clear-levels : (s u : State) (after : List ℕ) → (after ≡ wipe f.slots ws) × (u ≡ fresh) → cycle_outcome Done after u ≡ clocked_cleared m levels s ws
+  pub clear-levels : (s u : State) (after : List ℕ) → (after ≡ wipe f.slots ws) × (u ≡ fresh) → cycle_outcome (Ok None) after u ≡ clocked_cleared m levels s ws
   unfolding clocked_cleared
-  clear-levels s u after p = rw e (ap₂ (cycle_outcome Done) (p.0 ∙ ap (λ (n : ℕ). wipe n ws) slots-are) p.1)
+  clear-levels s u after p = rw e (ap₂ (cycle_outcome (Ok None)) (p.0 ∙ ap (λ (n : ℕ). wipe n ws) slots-are) p.1)

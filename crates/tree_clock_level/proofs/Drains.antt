@@ -1,5 +1,5 @@
 -- Drain: each test and what follows it make the outcome that the definition says.
-use Rattle.laws.specs.Prelude.{Answer, Bool, Done, Idle, List, ◌+◌, ◌-◌, ◌∙◌, ◌≡◌, add-one, ap, ap₂, arith, cond, false, length, not, pred, refl, suc, sym, true, zero, ℕ}
+use Rattle.laws.specs.Prelude.{Answer, Bool, Idle, List, ◌+◌, ◌-◌, ◌∙◌, ◌≡◌, add-one, ap, ap₂, arith, cond, false, length, not, pred, refl, suc, sym, true, zero, ℕ, Ok, None}
 use Rattle.tree_clock_model.specs.Prelude.{CycleOutcome, DrainOutcome, cycle_outcome, cycled, drain_from, drain_outcome, drains, is_refused, pending, quiet, works_of}
 use Rattle.tree_clock_model.specs.declared.State.{State}
 use Rattle.tree_model.specs.Prelude.{shape_ok}
@@ -15,16 +15,16 @@ module _ (m levels n k : ℕ) (below : levels ≡ suc k) (s : State) (ws : List 
   waits : not q ≡ pending m levels s
   waits = ap not (read ∙ ap (λ (n : ℕ). quiet (pred n) (works_of (pred n) s.records 0)) (sym below))
 
-  pub drain-quiet : (b : ℕ) (a : Answer) (k : ℕ) (l : Bool) (u : State) → q ≡ true → Report a k l u Done n false s → drain_outcome a k l ws u ≡ drain_from m levels b n s ws
+  pub drain-quiet : (b : ℕ) (a : Answer) (k : ℕ) (l : Bool) (u : State) → q ≡ true → Report a k l u (Ok None) n false s → drain_outcome a k l ws u ≡ drain_from m levels b n s ws
   unfolding drain_from
-  drain-quiet zero a k l u e p = reported a Done k n l false u s ws p ∙ ap (λ (t : Bool). drain_outcome Done n t ws s) (sym (ap not e) ∙ waits)
-  drain-quiet (suc b) a k l u e p = rw (sym waits ∙ ap not e) (reported a Done k n l false u s ws p)
+  drain-quiet zero a k l u e p = reported a (Ok None) k n l false u s ws p ∙ ap (λ (t : Bool). drain_outcome (Ok None) n t ws s) (sym (ap not e) ∙ waits)
+  drain-quiet (suc b) a k l u e p = rw (sym waits ∙ ap not e) (reported a (Ok None) k n l false u s ws p)
 
   -- the budget is spent
-  pub drain-spent : (b : ℕ) (a : Answer) (k : ℕ) (l : Bool) (u : State) → b ≡ 0 → Report a k l u Done n (not q) s → drain_outcome a k l ws u ≡ drain_from m levels b n s ws
+  pub drain-spent : (b : ℕ) (a : Answer) (k : ℕ) (l : Bool) (u : State) → b ≡ 0 → Report a k l u (Ok None) n (not q) s → drain_outcome a k l ws u ≡ drain_from m levels b n s ws
   unfolding drain_from
   drain-spent b a k l u z p =
-      reported a Done k n l (not q) u s ws p ∙ ap (λ (t : Bool). drain_outcome Done n t ws s) waits ∙ ap (λ (b : ℕ). drain_from m levels b n s ws) (sym z)
+      reported a (Ok None) k n l (not q) u s ws p ∙ ap (λ (t : Bool). drain_outcome (Ok None) n t ws s) waits ∙ ap (λ (b : ℕ). drain_from m levels b n s ws) (sym z)
 
   module _ (e : q ≡ false) where
     on : pending m levels s ≡ true
@@ -37,7 +37,7 @@ module _ (m levels n k : ℕ) (below : levels ≡ suc k) (s : State) (ws : List 
         where
           step : (b : ℕ) → drain_from m levels (suc b) n s ws ≡ cond t (drain_outcome x n true ws₁ s₁) (drain_from m levels b (suc n) s₁ ws₁)
           step b =
-              ap (λ (t : Bool). cond t (cond (is_refused (cycled m levels Idle s ws).answer) (drain_outcome (cycled m levels Idle s ws).answer n true (cycled m levels Idle s ws).words (cycled m levels Idle s ws).state) (drain_from m levels b (suc n) (cycled m levels Idle s ws).state (cycled m levels Idle s ws).words)) (drain_outcome Done n false ws s)) on
+              ap (λ (t : Bool). cond t (cond (is_refused (cycled m levels Idle s ws).answer) (drain_outcome (cycled m levels Idle s ws).answer n true (cycled m levels Idle s ws).words (cycled m levels Idle s ws).state) (drain_from m levels b (suc n) (cycled m levels Idle s ws).state (cycled m levels Idle s ws).words)) (drain_outcome (Ok None) n false ws s)) on
               ∙ ap (λ (o : CycleOutcome). cond (is_refused o.answer) (drain_outcome o.answer n true o.words o.state) (drain_from m levels b (suc n) o.state o.words)) (sym ran)
               ∙ ap (λ (t : Bool). cond t (drain_outcome x n true ws₁ s₁) (drain_from m levels b (suc n) s₁ ws₁)) (sym tested)
 
@@ -59,9 +59,6 @@ module _ (m levels n k : ℕ) (below : levels ≡ suc k) (s : State) (ws : List 
 -- what the drain from here on leaves, with n cycles run, is what the whole drain does
 abbrev pub Draining : ℕ → ℕ → ℕ → State → List ℕ → ℕ → State → List ℕ → Type 0
 Draining m levels budget s₀ ws₀ n s ws = drain_from m levels (budget - n) n s ws ≡ drain_from m levels budget 0 s₀ ws₀
-
-pub drain-starts : (m levels budget : ℕ) (s : State) (ws : List ℕ) → Draining m levels budget s ws 0 s ws
-drain-starts m levels budget s ws = let e : budget - 0 ≡ budget = omega arith in ap (λ (b : ℕ). drain_from m levels b 0 s ws) e
 
 pub drain_runs : (m levels budget : ℕ) (s : State) (ws : List ℕ) → shape_ok m levels (length ws) ≡ true → (d : DrainOutcome)
     → d ≡ drain_from m levels budget 0 s ws → d ≡ drains m levels budget s ws

@@ -1,5 +1,6 @@
 -- Level by level: what the code plans and writes makes the tests, the records and the words that the definitions say.
-use Rattle.laws.specs.Prelude.{Answer, Bool, Damaged, List, Refused, ◌&&◌, ◌*◌, ◌+◌, ◌-◌, ◌<◌, ◌∙◌, ◌≡◌, ◌≤◌, ◌⊎◌, add-one, ap, ap₂, arith, blank, cond, eq-or-lt_of_le, false, get_or, get_or-replicate, get_or-set_other, get_or-set_same, le-ltb, length, length-replicate, length-set, mul-le-mul_right, not, not-false, not-suc-le-zero, not-true, pred, refl, replicate, set, sub-one, subst, suc, suc-mul, sym, true, true≢false, zero, ℕ, ⊎_elim}
+use Rattle.std.proofs.Common.{None, Option, Some, is_some}
+use Rattle.laws.specs.Prelude.{Answer, Bool, Damaged, List, ◌&&◌, ◌*◌, ◌+◌, ◌-◌, ◌<◌, ◌∙◌, ◌≡◌, ◌≤◌, ◌⊎◌, add-one, ap, ap₂, arith, blank, cond, eq-or-lt_of_le, false, get_or, get_or-replicate, get_or-set_other, get_or-set_same, le-ltb, length, length-replicate, length-set, mul-le-mul_right, not-suc-le-zero, pred, refl, replicate, set, sub-one, subst, suc, suc-mul, sym, true, zero, ℕ, ⊎_elim, Err}
 use native.Mathlib.Nat.{add-mul, mul-le-mul_left}
 use Rattle.tree_clock_model.proofs.Laws.{works-set}
 use Rattle.tree_clock_model.specs.Prelude.{Works, cycle_ok, cycle_outcome, cycle_words, landed, record_at, record_count, records_after, works_of}
@@ -36,9 +37,9 @@ module _ (m b c r u : ℕ) (ws : List ℕ) (level : LevelIn m b c r u ws) (w : W
   abbrev child : ℕ
   child = b + c * m + w.node * m * m
 
-  pub level-lacks : (s : Step) → is_nothing w.op ≡ false → c ≤ w.node → s.ok ≡ false → LevelPlanned m b c r u w ws s
+  pub level-lacks : is_nothing w.op ≡ false → c ≤ w.node → LevelPlanned m b c r u w ws None
   unfolding work_ok
-  level-lacks s some h e k er eu = (e ∙ rw (some, level-length m ws b c, le-ltb w.node c h), λ z. absurd (true≢false (sym z ∙ e)))
+  level-lacks some h k er eu = (rw (some, level-length m ws b c, le-ltb w.node c h), tt)
 
   module _ (inside : w.node < c) where
     pub numbers : Numbers m b c w.node
@@ -63,43 +64,42 @@ module _ (m b c r u : ℕ) (ws : List ℕ) (level : LevelIn m b c r u ws) (w : W
           children = λ h. omega (arith, level.children h, v.child);
         }
 
-    module _ (t : Bool) (v : Move) (planned : Planned m r u w.op own child ws t v) where
-      level-test : (k : ℕ) → RoomIs m k r → RoomIs m (pred k) u → t ≡ work_ok m k w (level_of m ws b c) (top k (under m k ws b c))
-      level-test k er eu =
-          (planned k er eu).0 ∙ sym (fine-here m k b c w.node ws inside w.op) ∙ fine-plain m k w.op w.node (level_of m ws b c) (top k (under m k ws b c))
+    level-test : (p : Option Move) → Planned m r u w.op own child ws p → (k : ℕ) → RoomIs m k r → RoomIs m (pred k) u
+        → is_some p ≡ work_ok m k w (level_of m ws b c) (top k (under m k ws b c))
+    level-test p planned k er eu =
+        (planned k er eu).0 ∙ sym (fine-here m k b c w.node ws inside w.op) ∙ fine-plain m k w.op w.node (level_of m ws b c) (top k (under m k ws b c))
 
-      pub level-off : (s : Step) → not t ≡ true → s.ok ≡ false → LevelPlanned m b c r u w ws s
-      level-off s f e k er eu = (e ∙ sym (not-true t f) ∙ level-test k er eu, λ z. absurd (true≢false (sym z ∙ e)))
+    pub level-off : Planned m r u w.op own child ws None → LevelPlanned m b c r u w ws None
+    level-off planned k er eu = (level-test None planned k er eu, tt)
 
-      module _ (f : not t ≡ false) (some : is_nothing w.op ≡ false) where
-        step-passes : (k : ℕ) → RoomIs m k r → RoomIs m (pred k) u → step_ok m k w.op (node_of m ws own) (child_of m child ws) ≡ true
-        step-passes k er eu = sym (planned k er eu).0 ∙ not-false t f
+    module _ (v : Move) (planned : Planned m r u w.op own child ws (Some v)) where
+      step-passes : (k : ℕ) → RoomIs m k r → RoomIs m (pred k) u → step_ok m k w.op (node_of m ws own) (child_of m child ws) ≡ true
+      step-passes k er eu = sym (planned k er eu).0
 
-        step_is : (k : ℕ) → RoomIs m k r → RoomIs m (pred k) u → v ≡ node_move m w.op own child ws
-        step_is k er eu = (planned k er eu).1 (not-false t f)
+      step_is : (k : ℕ) → RoomIs m k r → RoomIs m (pred k) u → v ≡ node_move m w.op own child ws
+      step_is k er eu = (planned k er eu).1
 
-        pub place-less : v.place < m
-        place-less =
-            let ok = step-passes level.below level.fits level.under in
-            subst (λ (v : Move). v.place < m) (sym (step_is level.below level.fits level.under)) (place_here m level.below b c w.node ws inside w.op ok level.order some)
+      pub place-less : is_nothing w.op ≡ false → v.place < m
+      place-less some =
+          let ok = step-passes level.below level.fits level.under in
+          subst (λ (v : Move). v.place < m) (sym (step_is level.below level.fits level.under)) (place_here m level.below b c w.node ws inside w.op ok level.order some)
 
-        pub level-on : (s : Step) → StepOf b (w.node * m) v s → LevelPlanned m b c r u w ws s
-        level-on s of k fits deeper =
-            let e = of.0 in
-            let ea = of.1 in
-            let es = of.2 in
-            let er = of.3 in
-            let ok = step-passes k fits deeper in
-            let is : level_move m w.op w.node (level_of m ws b c) (top k (under m k ws b c)) ≡ v =
-            move-here m k b c w.node ws inside w.op ok ∙ sym (step_is k fits deeper) in (
-              e ∙ sym (not-false t f) ∙ level-test k fits deeper,
-              λ z. record {
-                place = ea ∙ ap (λ (v : Move). own + v.place) (sym is);
-                slot = es ∙ ap (λ (v : Move). v.slot) (sym is);
-                rest = er ∙ ap (λ (v : Move). work v.rest (w.node * m + v.place)) (step_is k fits deeper) ∙ sym (rest-here m k b c w.node ws inside w.op ok) ∙ rest_plain m k w.op w.node (level_of m ws b c) (top k (under m k ws b c));
-                own = omega (arith, ea, place-less, numbers.own);
-              },
-            )
+      pub level-on : is_nothing w.op ≡ false → (s : Step) → StepOf b (w.node * m) v s → LevelPlanned m b c r u w ws (Some s)
+      level-on some s of k fits deeper =
+          let ea = of.0 in
+          let es = of.1 in
+          let er = of.2 in
+          let ok = step-passes k fits deeper in
+          let is : level_move m w.op w.node (level_of m ws b c) (top k (under m k ws b c)) ≡ v =
+          move-here m k b c w.node ws inside w.op ok ∙ sym (step_is k fits deeper) in (
+            level-test (Some v) planned k fits deeper,
+            record {
+              place = ea ∙ ap (λ (v : Move). own + v.place) (sym is);
+              slot = es ∙ ap (λ (v : Move). v.slot) (sym is);
+              rest = er ∙ ap (λ (v : Move). work v.rest (w.node * m + v.place)) (step_is k fits deeper) ∙ sym (rest-here m k b c w.node ws inside w.op ok) ∙ rest_plain m k w.op w.node (level_of m ws b c) (top k (under m k ws b c));
+              own = omega (arith, ea, place-less some, numbers.own);
+            },
+          )
 
 -- ---- the writes
 pub written_none : (l : List Write) (ws : List ℕ) → ws ≡ written 0 l ws
@@ -221,9 +221,9 @@ module _ (m k b c i n r : ℕ) (ws : List ℕ) (l : List Write) (q : Work) (rs :
       ap (cycle_words m k (works_of k rs (suc i)) (b + c * m) (c * m)) (sym (words-plain m k w.op w.node b c (written n l ws))) ∙ now.words
 
   -- damage
-  pub run-levels-damaged : (u : ℕ) → RoomUnder m r u → (s : Step) → LevelPlanned m b c r u w ws s → not s.ok ≡ true → t ≡ false
-  run-levels-damaged u f s p e =
-      let z : work_ok m k w here (top k deep) ≡ false = sym (p k now.fits (f k now.fits)).0 ∙ not-true s.ok e in
+  pub run-levels-damaged : (u : ℕ) → RoomUnder m r u → LevelPlanned m b c r u w ws None → t ≡ false
+  run-levels-damaged u f p =
+      let z : work_ok m k w here (top k deep) ≡ false = sym (p k now.fits (f k now.fits)).0 in
       sym ok-split ∙ ap (λ (a : Bool). a && cycle_ok m k (works_of k rs (suc i)) deep) z
 
   module _ (landing : Work) (lands : landing ≡ landed q w) (u : ℕ) (f : RoomUnder m r u) where
@@ -264,16 +264,15 @@ module _ (m k b c i n r : ℕ) (ws : List ℕ) (l : List Write) (q : Work) (rs :
         run-levels-on none n l (rw e) (en ∙ sym (work_none m w here (top k deep) (is_none w.op e))) (rw e) deep-stands (omega (arith, now.few)) now.spare now.inside
 
     -- a level whose step is in order
-    pub run-levels-step : (s : Step) → LevelPlanned m b c r u w ws s → is_nothing w.op ≡ false → not s.ok ≡ false → n < length l
+    pub run-levels-step : (s : Step) → LevelPlanned m b c r u w ws (Some s) → is_nothing w.op ≡ false → n < length l
         → Passing m k (b + c * m) (c * m) (i + 1) (n + 1) u ws (set l n s.write) s.rest (set rs i landing) t rs' ws'
     unfolding step_words
-    run-levels-step s p e y fit =
-        let yes' : s.ok ≡ true = not-false s.ok y in
-        let d : Does m k w b c ws s = (p k now.fits (f k now.fits)).1 yes' in
+    run-levels-step s p e fit =
+        let d : Does m k w b c ws s = (p k now.fits (f k now.fits)).1 in
         let more = written-more n l s.write ws fit in
         let same : level_move m w.op w.node (level_of m (written n l ws) b c) (top k (under m k (written n l ws) b c)) ≡ level_move m w.op w.node here (top k deep) =
         ap₂ (λ (l : Level) (ls : Levels k). level_move m w.op w.node l (top k ls)) here-stands deep-stands in
-        run-levels-on s.rest (n + 1) (set l n s.write) (sym (p k now.fits (f k now.fits)).0 ∙ yes') d.rest
+        run-levels-on s.rest (n + 1) (set l n s.write) (sym (p k now.fits (f k now.fits)).0) d.rest
         (more ∙ ap₂ (write (written n l ws)) d.place d.slot ∙ rw e (ap (λ (v : Move). write (written n l ws) (b + w.node * m + v.place) v.slot) (sym same)))
         (ap (λ (v : List ℕ). levels_of m k v (b + c * m) (c * m)) more ∙ levels-before m k (written n l ws) (b + c * m) (c * m) s.write.at s.write.slot d.own ∙ deep-stands)
         (omega (arith, now.few)) (length-set l n s.write ∙ now.spare)
@@ -320,7 +319,7 @@ module _ (m k : ℕ) (ws : List ℕ) (rooted : Rooted m k ws) (h : RootStep) (pl
   o = h.op
 
   abbrev v : Move
-  v = h.plan.step
+  v = h.step
 
   abbrev first : Write
   first = record { at = v.place; slot = v.slot }
@@ -427,18 +426,18 @@ module _ (m k : ℕ) (ws : List ℕ) (rooted : Rooted m k ws) (h : RootStep) (pl
   pub run-levels-root : (s : State) (root : Step) (top n : ℕ) (at : AtLevel) → StepOf 0 0 v root → RoomIs m k top → SecondLevel m top at → n ≡ cond (is_nothing o) 0 1
       → Going m k ws o s at 0 n (replicate (suc record_count) root.write) root.rest s.records
   run-levels-root s root top n at of et second en =
-      let place : root.write.at ≡ v.place = of.1 ∙ omega arith in
+      let place : root.write.at ≡ v.place = of.0 ∙ omega arith in
       let z : 0 + v.place ≡ v.place = omega arith in
       passing-as m (k - 0) m at.base m at.nodes 0 n n at.room ws (replicate (suc record_count) first) (replicate (suc record_count) root.write) root.rest root.rest s.records _ _ _
-      (run-levels-start s top at.room n root.rest et second.room en (of.3 ∙ ap (work v.rest) z)) second.base second.nodes refl
-      (ap (replicate (suc record_count)) (λ i. record { at = place i; slot = of.2 i })) refl
+      (run-levels-start s top at.room n root.rest et second.room en (of.2 ∙ ap (work v.rest) z)) second.base second.nodes refl
+      (ap (replicate (suc record_count)) (λ i. record { at = place i; slot = of.1 i })) refl
 
   -- ---- what the cycle then leaves
   module _ (a : Answer) (mark : Bool) (s : State) where
     abbrev whole : Bool
     whole = cycle_ok m k (works_of k s.records 0) (under m k ws 0 1)
 
-    pub cycle_run-off : (x : Answer) (u : State) → whole ≡ false → (x ≡ Refused Damaged) × (u ≡ s) → cycle_outcome x ws u ≡ turned_by m k a o mark s ws
+    pub cycle_run-off : (x : Answer) (u : State) → whole ≡ false → (x ≡ Err Damaged) × (u ≡ s) → cycle_outcome x ws u ≡ turned_by m k a o mark s ws
     unfolding turned_by
     cycle_run-off x u e p = rw e (λ i. record { answer = p.0 i; words = ws; state = p.1 i })
 

@@ -1,42 +1,11 @@
 -- What the code has read of the records makes the work and the record that the definitions say.
-use Rattle.laws.specs.Prelude.{Bool, List, ◌&&◌, ◌*◌, ◌+◌, ◌-◌, ◌<◌, ◌∙◌, ◌≡◌, ◌≤◌, add-one, and_assoc, and_left, and_right, and-unit, ap, ap₂, arith, cond, false, get_or, not, not-false, not-true, refl, set, set-get_or, suc, sym, true, true≢false, zero, ℕ}
+use Rattle.laws.specs.Prelude.{Bool, List, ◌&&◌, ◌*◌, ◌+◌, ◌-◌, ◌<◌, ◌∙◌, ◌≡◌, ◌≤◌, add-one, and_assoc, and_left, and_right, and-unit, ap, ap₂, arith, get_or, refl, set, set-get_or, suc, sym, true, zero, ℕ}
 use Rattle.tree_clock_model.specs.Prelude.{cycle_ok, cycle_words, landed, quiet, record_at, records_after, works_of}
 use Rattle.tree_model.proofs.Laws.{is_none, op-work, work_none}
 use Rattle.tree_model.specs.Prelude.{Level, Levels, idle, is_nothing, step_words, step_work, top, work, work_ok}
 use Rattle.tree_model.specs.declared.Op.{Op}
 use Rattle.tree_model.specs.declared.Op.TheVariants.{Nothing, Put, Swap, Take}
 use Rattle.tree_model.specs.declared.Work.{Work}
-
-pub work-nothing : (o : Op) (n : ℕ) (r : Work) (t : Bool) → t ≡ is_nothing o → t ≡ true → r ≡ idle → r ≡ work o n
-unfolding work
-work-nothing o n r t read e p = p ∙ ap (λ (o : Op). work o n) (sym (is_none o (sym read ∙ e)))
-
-pub work-some : (o : Op) (n : ℕ) (t : Bool) → t ≡ is_nothing o → t ≡ false → record { op = o; node = n } ≡ work o n
-unfolding work is_nothing
-work-some Nothing n t read e = absurd (true≢false (sym read ∙ e))
-work-some (Put x) n t read e = refl
-work-some Take n t read e = refl
-work-some (Swap x) n t read e = refl
-
-module _ (q w : Work) (a : Bool) (read : a ≡ is_nothing q.op) where
-  pub land-loads : not a ≡ true → q ≡ landed q w
-  unfolding landed
-  land-loads e = rw (← read, not-true a e)
-
-  module _ (b : Bool) (read₁ : b ≡ is_nothing w.op) (e : not a ≡ false) where
-    pub land-stands : b ≡ true → w ≡ landed q w
-    unfolding landed
-    land-stands f = rw (← read, not-false a e, ← read₁, f)
-
-    pub land-done : (r : Work) → b ≡ false → r ≡ idle → r ≡ landed q w
-    unfolding landed
-    land-done r f p = rw (← read, not-false a e, ← read₁, f) p
-
-pub steps-none : (o : Op) (t : Bool) → t ≡ is_nothing o → t ≡ true → ◌≡◌ {A = ℕ} 0 (cond (is_nothing o) 0 1)
-steps-none o t read e = rw (← read, e)
-
-pub steps-one : (o : Op) (t : Bool) → t ≡ is_nothing o → t ≡ false → ◌≡◌ {A = ℕ} 1 (cond (is_nothing o) 0 1)
-steps-one o t read e = rw (← read, e)
 
 -- ---- a record's numbers that its kind does not use are not read
 module _ (m k : ℕ) where
@@ -70,9 +39,6 @@ module _ (rs : List Work) where
   -- what the first i records say, with what the rest of them will
   abbrev pub Asking : ℕ → ℕ → Bool → Type 0
   Asking n i t = (t && quiet (n - i) (works_of (n - i) rs i)) ≡ quiet n (works_of n rs 0)
-
-  pub quiet-start : (n : ℕ) → Asking n 0 true
-  quiet-start n = let e : n - 0 ≡ n = omega arith in ap (λ (k : ℕ). quiet k (works_of k rs 0)) e
 
   pub quiet_next : (n i : ℕ) (t u : Bool) → i < n → Asking n i t → u ≡ is_nothing (get_or rs i idle).op → Asking n (i + 1) (t && u)
   quiet_next n i t u h p read =

@@ -1,6 +1,6 @@
 -- What the code of a request at the root asks and says.
-use Rattle.std.specs.Prelude.{◌&&◌, ◌≡◌, ◌≤◌}
-use Rattle.laws.specs.Prelude.{Answer, Bool, List, Request, blank, suc, true, ℕ}
+use Rattle.std.specs.Prelude.{Option, ◌&&◌, ◌≡◌, ◌≤◌, IfSome, is_some}
+use Rattle.laws.specs.Prelude.{Answer, Bool, List, Request, blank, suc, ℕ}
 use Rattle.tree_clock_model.specs.Prelude.{asked_ok, rule_marked}
 use Rattle.tree_clock_level.specs.declared.root.RootStep.{RootStep}
 use Rattle.tree_node.specs.Room.{child_of, ChildrenIn}
@@ -22,19 +22,23 @@ pub record RootIn (m r : ℕ) (ws : List ℕ) : Type 0 where
   pub children : 1 ≤ r → ChildrenIn m m ws
 
 -- nothing is done
-abbrev pub Still : ℕ → Bool → Answer → RootStep → Type 0
-Still m ok a h = (h.plan.ok ≡ ok) × (h.answer ≡ a) × (h.op ≡ Nothing) × (h.plan.step ≡ move m blank 0 Nothing)
+abbrev pub AtRest : ℕ → Answer → RootStep → Type 0
+AtRest m a h = (h.answer ≡ a) × (h.op ≡ Nothing) × (h.step ≡ move m blank 0 Nothing)
 
--- the test of the root is t, and the ruling g: the plan is in order where the root is and the ruling's step is; then the answer, the
--- operation and the step are those of the ruling
-abbrev pub Settles : ℕ → ℕ → Bool → Ruling → List ℕ → RootStep → Type 0
-Settles m k t g ws h =
-    (h.plan.ok ≡ (t && step_ok m k g.op (node_of m ws 0) (child_of m m ws)))
-    × (h.plan.ok ≡ true → (h.answer ≡ g.answer) × (h.op ≡ g.op) × (h.plan.step ≡ node_move m g.op 0 m ws))
+-- .. where the test ok is passed
+abbrev pub Still : ℕ → Bool → Answer → Option RootStep → Type 0
+Still m ok a p = (is_some p ≡ ok) × IfSome p (AtRest m a)
+
+-- the test of the root is t, and the ruling g: the request comes to something where the root is in order and the ruling's step is; then the
+-- answer, the operation and the step are those of the ruling
+abbrev pub Settles : ℕ → ℕ → Bool → Ruling → List ℕ → Option RootStep → Type 0
+Settles m k t g ws p =
+    (is_some p ≡ (t && step_ok m k g.op (node_of m ws 0) (child_of m m ws)))
+    × IfSome p (λ h. (h.answer ≡ g.answer) × (h.op ≡ g.op) × (h.step ≡ node_move m g.op 0 m ws))
 
 -- .. whatever number of levels has this room: a request that is not too soon, and any request with its mark
-abbrev pub Ruled : ℕ → ℕ → Request → List ℕ → RootStep → Type 0
-Ruled m r q ws h = (k : ℕ) → RoomIs m k r → Settles m k (root_ok m (suc k) ws) (rule_at m (suc k) q ws) ws h
+abbrev pub Ruled : ℕ → ℕ → Request → List ℕ → Option RootStep → Type 0
+Ruled m r q ws p = (k : ℕ) → RoomIs m k r → Settles m k (root_ok m (suc k) ws) (rule_at m (suc k) q ws) ws p
 
-abbrev pub RulesRoot : ℕ → ℕ → Bool → Request → List ℕ → RootStep → Type 0
-RulesRoot m r mark q ws h = (k : ℕ) → RoomIs m k r → Settles m k (asked_ok m (suc k) q ws) (rule_marked mark q (rule_at m (suc k) q ws)) ws h
+abbrev pub RulesRoot : ℕ → ℕ → Bool → Request → List ℕ → Option RootStep → Type 0
+RulesRoot m r mark q ws p = (k : ℕ) → RoomIs m k r → Settles m k (asked_ok m (suc k) q ws) (rule_marked mark q (rule_at m (suc k) q ws)) ws p

@@ -14,7 +14,7 @@ pub mod shaped;
 
 use records::{is_idle, is_nothing, land, no_work, work_at};
 use root::RootStep;
-use strip::{Answer, Refusal, no_element};
+use strip::{Answer, Refusal, left_as};
 use tree_clock_model::{Cycled, RECORDS, State};
 use tree_model::{Move, Slot, Work};
 use tree_node::room_under;
@@ -66,28 +66,11 @@ pub struct Write {
     pub slot: Slot,
 }
 
-// A level's step: whether all that it reads is in order and, where it is, what it writes and what it leaves for the next level's record.
+// A level's step: what it writes, and what it leaves for the next level's record.
 #[derive(Clone, Copy)]
 pub struct Step {
-    pub ok: bool,
     pub write: Write,
     pub rest: Work,
-}
-
-fn damaged() -> Step
-    ensures { result.ok ≡ false }
-{
-    let slot = Slot {
-        element: no_element(),
-        count: 0,
-    };
-    let write = Write { at: 0, slot };
-    let rest = no_work();
-    Step {
-        ok: false,
-        write,
-        rest,
-    }
 }
 
 // The step v at the node whose first slot is slot `first` of the level at slot `base`.
@@ -95,50 +78,34 @@ fn step_of(v: Move, base: usize, first: usize) -> Step
     requires { base + first + v.place < 4294967296 }
     ensures { StepOf base first v result }
 {
-    let slot = v.slot;
     let write = Write {
         at: base + first + v.place,
-        slot,
+        slot: v.slot,
     };
-    let left = v.rest;
-    let rest = work_at(left, first + v.place);
-    Step {
-        ok: true,
-        write,
-        rest,
-    }
+    let rest = work_at(v.rest, first + v.place);
+    Step { write, rest }
 }
 
-// The step of a level's pending work.
-fn plan_level(s: &[u32], order: usize, at: AtLevel, under: usize, w: Work) -> Step
+// The step of a level's pending work, where all that it reads is in order.
+fn plan_level(s: &[u32], order: usize, at: AtLevel, under: usize, w: Work) -> Option<Step>
     requires { LevelIn order at.base at.nodes at.room under s.now × (is_nothing w.op ≡ false) }
     ensures { LevelPlanned order at.base at.nodes at.room under w s.now result }
 {
-    let op = w.op;
-    let node = w.node;
-    if at.nodes <= node {
-        return damaged();
+    if at.nodes <= w.node {
+        return None;
     }
-    let first = node * order;
+    let first = w.node * order;
     let child = at.base + at.nodes * order + first * order;
-    let p = plan_of(s, at.base + first, child, order, at.room, under, op);
-    if !p.ok {
-        return damaged();
-    }
-    let v = p.step;
-    step_of(v, at.base, first)
+    let v = plan_of(s, at.base + first, child, order, at.room, under, w.op)?;
+    Some(step_of(v, at.base, first))
 }
 
 fn write_all(s: &mut [u32], count: usize, writes: [Write; LEVELS])
     requires { Within count writes s.old }
     ensures { s.new ≡ written count writes s.old }
 {
-    let mut i = 0;
-    while i < count {
-        let w = writes[i];
-        let slot = w.slot;
-        write_slot(s, w.at, slot);
-        i += 1;
+    for w in &writes[..count] {
+        write_slot(s, w.at, w.slot);
     }
 }
 
@@ -146,20 +113,10 @@ fn write_all(s: &mut [u32], count: usize, writes: [Write; LEVELS])
 fn steps_of(g: RootStep) -> usize
     ensures { result ≡ cond (is_nothing g.op) 0 1 }
 {
-    let op = g.op;
-    if is_nothing(op) { 0 } else { 1 }
+    if is_nothing(g.op) { 0 } else { 1 }
 }
 
 // ---- what a cycle gives back
-
-pub fn left_as(refusal: Refusal, state: State) -> Cycled
-    ensures { (result.answer ≡ Answer.Refused refusal) × (result.state ≡ state) }
-{
-    Cycled {
-        answer: Answer::Refused(refusal),
-        state,
-    }
-}
 
 // A cycle that has run.
 pub fn ran(answer: Answer, records: [Work; RECORDS], mark: bool) -> Cycled
@@ -171,7 +128,8 @@ pub fn ran(answer: Answer, records: [Work; RECORDS], mark: bool) -> Cycled
 
 // ---- all levels
 
-// Every level does its one step, the root the operation's, with `below` levels below it. All tests come before the first write.
+// Every level does its one step, the root the operation's, with `below` levels below it. All tests come before the first write: the writes
+// wait in an array with their number, since nothing is allocated.
 pub fn run_levels(
     s: &mut [u32],
     order: usize,
@@ -184,35 +142,28 @@ pub fn run_levels(
     requires { Rooted order below s.old × RoomIs order below top × RootPlanned order below g s.old }
     ensures { cycle_outcome result.answer s.new result.state ≡ turned_by order below g.answer g.op mark state s.old }
 {
-    let root = step_of(g.plan.step, 0, 0);
-    let first = root.write;
+    let root = step_of(g.step, 0, 0);
     let mut load = root.rest;
     let mut records = state.records;
-    let mut writes = [first; LEVELS];
+    let mut writes = [root.write; LEVELS];
     let mut n = steps_of(g);
     let mut at = second_level(order, top);
-    let mut i = 0;
-    while i < below {
+    for i in 0..below {
         let own = records[i];
         let due = land(load, own);
         records[i] = due;
         load = no_work();
         let next = next_level(order, at);
         if !is_idle(own) {
-            let p = plan_level(s, order, at, next.room, own);
-            if !p.ok {
+            let Some(p) = plan_level(s, order, at, next.room, own) else {
                 return left_as(Refusal::Damaged, state);
-            }
-            let w = p.write;
-            let rest = p.rest;
-            writes[n] = w;
+            };
+            writes[n] = p.write;
             n += 1;
-            load = rest;
+            load = p.rest;
         }
         at = next;
-        i += 1;
     }
     write_all(s, n, writes);
-    let answer = g.answer;
-    ran(answer, records, mark)
+    ran(g.answer, records, mark)
 }

@@ -9,22 +9,17 @@ ghost use Rattle.tree_clock_model.specs.Records.{landed, works_of};
 use tree_clock_model::RECORDS;
 use tree_model::{Op, Work};
 
+#[tactic(auto, unfolding(tree_model::specs::Node::is_nothing))]
 pub fn is_nothing(op: Op) -> bool
     ensures { result ≡ is_nothing op }
 {
-    match op {
-        Op::Nothing => true,
-        Op::Put(_) => false,
-        Op::Take => false,
-        Op::Swap(_) => false,
-    }
+    matches!(op, Op::Nothing)
 }
 
 pub fn is_idle(w: Work) -> bool
     ensures { result ≡ is_nothing w.op }
 {
-    let op = w.op;
-    is_nothing(op)
+    is_nothing(w.op)
 }
 
 pub fn no_work() -> Work
@@ -37,6 +32,7 @@ pub fn no_work() -> Work
 }
 
 // Work at a node; with nothing to do the node is 0.
+#[tactic(auto, unfolding(tree_model::specs::Levels::work, tree_model::specs::Node::is_nothing))]
 pub fn work_at(op: Op, node: usize) -> Work
     ensures { result ≡ work op node }
 {
@@ -47,6 +43,7 @@ pub fn work_at(op: Op, node: usize) -> Work
 }
 
 // What a record becomes where the level above leaves `carry` for it. A record of nothing stands, whatever its number.
+#[tactic(auto, unfolding(tree_clock_model::specs::Records::landed))]
 pub fn land(carry: Work, own: Work) -> Work
     ensures { result ≡ landed carry own }
 {
@@ -65,11 +62,8 @@ pub fn is_quiet(count: usize, records: [Work; RECORDS]) -> bool
     ensures { result ≡ quiet count (works_of count records 0) }
 {
     let mut ok = true;
-    let mut i = 0;
-    while i < count {
-        let own = records[i];
-        ok = ok & is_idle(own);
-        i += 1;
+    for own in &records[..count] {
+        ok = ok & is_idle(*own);
     }
     ok
 }

@@ -1,5 +1,5 @@
 -- One cycle moves elements between slots and records, and loses none: at a node, over the levels, and on words and records.
-use Rattle.laws.specs.Prelude.{Answer, Bool, Element, Idle, List, NoTag, Pop, Push, Refused, Replace, Request, TooSoon, [], ◌&&◌, ◌*◌, ◌+◌, ◌<◌, ◌∙◌, ◌∷◌, ◌≡◌, ◌≤◌, add-zero, and_left, and_right, ap, arith, cond_both, element_of, false, get_or, grid, length, ltb, ltb-true, not-false, not-suc-le-zero, number_of, pred, refl, set, suc, sum-set, sum_of, sum_to, sym, to-append, to-ext, true, true≢false, zero, zero-add, ℕ}
+use Rattle.laws.specs.Prelude.{Answer, Bool, Element, Idle, List, NoTag, Pop, Push, Replace, Request, TooSoon, [], ◌&&◌, ◌*◌, ◌+◌, ◌<◌, ◌∙◌, ◌∷◌, ◌≡◌, ◌≤◌, add-zero, and_left, and_right, ap, arith, cond_both, element_of, false, get_or, grid, length, ltb, ltb-true, not-false, not-suc-le-zero, number_of, pred, refl, set, suc, sum-set, sum_of, sum_to, sym, to-append, to-ext, true, true≢false, zero, zero-add, ℕ, Err}
 use native.Mathlib.Nat.{add_assoc, one-mul}
 use Rattle.tree_clock_model.proofs.Clock.{step-gap}
 use Rattle.tree_clock_model.proofs.Ends.{last-ends}
@@ -333,7 +333,7 @@ module _ (f : Element → Bool) where
 
   comes-sums : (c : ℕ) (nd : List Slot) (r : Request) (g : Ruling) → Comes c nd r g → Serves nd r g
   comes-sums c nd r g idles = (refl, refl)
-  comes-sums c nd r g (no-tag r' u) = refused_none r (Refused NoTag) 6 refl
+  comes-sums c nd r g (no-tag r' u) = refused_none r (Err NoTag) 6 refl
   comes-sums c nd r g (puts x u l) = (refl, refl)
   comes-sums c nd r g (full x u l) = (refl, refl)
   comes-sums c nd r g (takes l) = (refl, refl)
@@ -345,4 +345,4 @@ module _ (f : Element → Bool) where
   pub ruled-sums : (c : ℕ) (nd : List Slot) (mark : Bool) (r : Request) → Serves nd r (rule_marked mark r (rule c r nd))
   unfolding rule_marked
   ruled-sums c nd mark r =
-      cond_both (Serves nd r) (mark && pops_or_replaces r) (ruling (Refused TooSoon) Nothing) (rule c r nd) (λ t. refused_none r (Refused TooSoon) 2 refl) (λ t. comes-sums c nd r _ (comes c r nd))
+      cond_both (Serves nd r) (mark && pops_or_replaces r) (ruling (Err TooSoon) Nothing) (rule c r nd) (λ t. refused_none r (Err TooSoon) 2 refl) (λ t. comes-sums c nd r _ (comes c r nd))

@@ -1,6 +1,6 @@
 -- Demand 3: over any list of cycles from a cleared machine the answers are those of the one-at-a-time tree with the rule of the mark, at
 -- most levels - 1 idle cycles leave nothing pending, and then the words are that tree's.
-use Rattle.laws.specs.Prelude.{Bool, Done, Idle, List, Request, ◌+◌, ◌-◌, ◌∙◌, ◌≡◌, ◌≤◌, and-true, ap, arith, false, get_or, leb, leb-false, leb-true, length, length-replicate, not, not-false, not-suc-le-zero, pred, refl, replicate, subst, suc, suc-add, sym, true, zero, ℕ, ⊎_elim}
+use Rattle.laws.specs.Prelude.{Bool, Idle, List, Request, ◌+◌, ◌-◌, ◌∙◌, ◌≡◌, ◌≤◌, and-true, ap, arith, false, get_or, leb, leb-false, leb-true, length, length-replicate, not, not-false, not-suc-le-zero, pred, refl, replicate, subst, suc, suc-add, sym, true, zero, ℕ, ⊎_elim, Ok, None}
 use native.Mathlib.Nat.{mul-le-mul}
 use Rattle.tree_clock_model.proofs.Clock.{at_rest, lead-quiet, leads}
 use Rattle.tree_clock_model.proofs.Step.{one-by-one-is, idle-ruling, in_step, InStep, quiet-clear, quiet-ready, quiet-spaced, step-answer, step-mark, ticks}
@@ -73,7 +73,7 @@ module _ (m levels : ℕ) where
   abbrev pub lead : ℕ → State → Type 0
   lead j s = Lead j (pred levels) (works_of (pred levels) s.records 0)
 
-  pub cycle_run-lead : (j : ℕ) (s : State) (ws : List ℕ) → pred levels ≤ length s.records → lead j s → lead (suc j) (cycle_run m levels Idle (ruling Done Nothing) s ws).state
+  pub cycle_run-lead : (j : ℕ) (s : State) (ws : List ℕ) → pred levels ≤ length s.records → lead j s → lead (suc j) (cycle_run m levels Idle (ruling (Ok None) Nothing) s ws).state
   unfolding cycle_run
   cycle_run-lead j s ws len h =
       subst (Lead (suc j) (pred levels)) (sym (works-after m (pred levels) _ 0 s.records (under m (pred levels) ws 0 1) (plain-rest m (work Nothing 0) _ _) (omega arith)))

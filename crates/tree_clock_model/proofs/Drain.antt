@@ -1,5 +1,5 @@
 -- A drain is so many idle cycles: none once nothing is pending, no more than the budget, and it stops at damage.
-use Rattle.laws.specs.Prelude.{Answer, BadShape, Damaged, Done, Exactly, Idle, List, Refusal, Refused, Request, ◌<◌, ◌≡◌, ◌≤◌, ap, arith, false, left_behind, length, not, number_of, pred, refl, refusal_number, subst, suc, sym, true, ℕ}
+use Rattle.laws.specs.Prelude.{Answer, BadShape, Damaged, Exactly, Idle, List, Refusal, Request, ◌<◌, ◌≡◌, ◌≤◌, ap, arith, false, left_behind, length, not, number_of, pred, refl, refusal_number, subst, suc, sym, true, ℕ, Ok, None, Err}
 use Rattle.tree_clock_model.proofs.Clock.{lead-quiet}
 use Rattle.tree_clock_model.proofs.Demand.{lead, cycle_run-lead}
 use Rattle.tree_clock_model.proofs.Exactly.{cycled-either, run_length, timed}
@@ -19,8 +19,8 @@ cycled-length m levels r s ws = cycled-either m levels r s ws (λ c. length c.wo
 
 -- ---- how a drain with the budget b ends after so many idle cycles: done, with nothing pending or the budget spent; or jammed
 pub data End (m levels b more : ℕ) (s : State) (ws : List ℕ) (d : DrainOutcome) : Type 0 where
-  done : d.answer ≡ Done → (d.left ≡ true → more ≡ b) → End m levels b more s ws d
-  jammed : d.answer ≡ Refused Damaged → d.left ≡ true → Jams m levels b more s ws → End m levels b more s ws d
+  done : d.answer ≡ Ok None → (d.left ≡ true → more ≡ b) → End m levels b more s ws d
+  jammed : d.answer ≡ Err Damaged → d.left ≡ true → Jams m levels b more s ws → End m levels b more s ws d
 
 -- ---- this machine's drain is its clock's (`promise/proofs/Drains.antt`): what follows is said of it under the law's words
 module _ (m levels : ℕ) where
@@ -36,7 +36,7 @@ module _ (m levels : ℕ) where
     drains-as =
         drain.drains-shown (clocked_queue m levels) (clock m levels).pending shown (λ b n x. drain_from m levels b n x.state x.words) (λ n x. refl) (λ b n x. refl) ((clock m levels).shape_ok x) b x
 
-    pub drain-bad : shape_ok m levels (length ws) ≡ false → drains m levels b s ws ≡ drain_outcome (Refused BadShape) 0 false ws s
+    pub drain-bad : shape_ok m levels (length ws) ≡ false → drains m levels b s ws ≡ drain_outcome (Err BadShape) 0 false ws s
     unfolding drains
     drain-bad e = rw e
 
@@ -61,7 +61,7 @@ module _ (m levels : ℕ) where
     drain-stops = rw drains-as (drain.drain-stops (timed m levels) b x)
 
     -- KIND: a drain that is not refused is done
-    pub drain-kind : number_of (drains m levels b s ws).answer ≡ 0 → (drains m levels b s ws).answer ≡ Done
+    pub drain-kind : number_of (drains m levels b s ws).answer ≡ 0 → (drains m levels b s ws).answer ≡ Ok None
     drain-kind = rw drains-as (drain.drain-kind (timed m levels) b x)
 
     module _ (sh : Shape m levels (length ws)) where
@@ -97,7 +97,7 @@ module _ (m levels : ℕ) where
 -- ---- DRAIN-FEW: whatever the state and the budget, no more cycles are run than there are levels from 2: each leaves one more level with
 -- nothing to do
 module _ (m levels : ℕ) where
-  cycle_run-records : (s : State) (ws : List ℕ) → length (cycle_run m levels Idle (ruling Done Nothing) s ws).state.records ≡ length s.records
+  cycle_run-records : (s : State) (ws : List ℕ) → length (cycle_run m levels Idle (ruling (Ok None) Nothing) s ws).state.records ≡ length s.records
   unfolding cycle_run
   cycle_run-records s ws = after-length m (pred levels) _ 0 s.records (under m (pred levels) ws 0 1)
 

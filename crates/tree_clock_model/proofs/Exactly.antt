@@ -1,5 +1,5 @@
 -- Every refusal of a cycle is given exactly for its cause, and leaves behind what the table says.
-use Rattle.laws.specs.Prelude.{Answer, BadShape, Bool, Damaged, Done, Exactly, Fails, Idle, Iff, List, Means, Out, Pop, Push, Refusal, Refused, Replace, Request, TooSoon, ◌&&◌, ◌∙◌, ◌≡◌, and_left, and_right, and-true, ap, fails-and, fails-or, fails-true, false, false≢true, left_behind, length, means-and, means-by, not, number_of, pred, refl, refusal_number, rung, runs_idle, stop, suc, sym, true, true≢false, zero, ℕ}
+use Rattle.laws.specs.Prelude.{Answer, BadShape, Bool, Damaged, Exactly, Fails, Idle, Iff, List, Means, Pop, Push, Refusal, Replace, Request, TooSoon, ◌&&◌, ◌∙◌, ◌≡◌, and_left, and_right, and-true, ap, fails-and, fails-or, fails-true, false, false≢true, left_behind, length, means-and, means-by, not, number_of, pred, refl, refusal_number, rung, runs_idle, stop, suc, sym, true, true≢false, zero, ℕ, Ok, None, Some, Err}
 use Rattle.tree_clock_model.proofs.Step.{idle-ruling}
 use Rattle.tree_clock_model.proofs.Turn.{cycle-length}
 use Rattle.tree_clock_model.specs.Prelude.{CycleDamage, CycleOutcome, Machine, PopsOrReplaces, State, Works, WorksDamaged, all_levels, asked_ok, asks, clock, clocked_queue, cycle_left, cycle_ok, cycle_outcome, cycle_refusals, cycle_run, cycle_work, cycled, is_refused, machine, marks, pops_or_replaces, rule_marked, rule_now, steps_ok}
@@ -37,11 +37,11 @@ module _ (m levels : ℕ) (r : Request) (s : State) (ws : List ℕ) where
   sound = asked_ok m levels r ws && steps_ok m levels g.op s ws
 
   -- ---- the cycle by its tests
-  pub cycled-bad : shape_ok m levels (length ws) ≡ false → cycled m levels r s ws ≡ cycle_outcome (Refused BadShape) ws s
+  pub cycled-bad : shape_ok m levels (length ws) ≡ false → cycled m levels r s ws ≡ cycle_outcome (Err BadShape) ws s
   unfolding cycled
   cycled-bad e = rw e
 
-  pub cycled-damaged : shape_ok m levels (length ws) ≡ true → sound ≡ false → cycled m levels r s ws ≡ cycle_outcome (Refused Damaged) ws s
+  pub cycled-damaged : shape_ok m levels (length ws) ≡ true → sound ≡ false → cycled m levels r s ws ≡ cycle_outcome (Err Damaged) ws s
   unfolding cycled
   cycled-damaged e f = rw (e, f)
 
@@ -50,11 +50,11 @@ module _ (m levels : ℕ) (r : Request) (s : State) (ws : List ℕ) where
   cycled-fine e f = rw (e, f)
 
   -- what is so of a cycle refused for the shape or for damage, and of one that ran, is so of the cycle
-  pub cycled-either : (P : CycleOutcome → Type 0) → P (cycle_outcome (Refused BadShape) ws s) → P (cycle_outcome (Refused Damaged) ws s)
+  pub cycled-either : (P : CycleOutcome → Type 0) → P (cycle_outcome (Err BadShape) ws s) → P (cycle_outcome (Err Damaged) ws s)
       → (shape_ok m levels (length ws) ≡ true → sound ≡ true → P (cycle_run m levels r g s ws)) → P (cycled m levels r s ws)
   unfolding cycled
   cycled-either P bad damaged done =
-      decided-either (λ n. cycle_outcome (Refused n) ws s) P (needs BadShape (shape_ok m levels (length ws)) (Shape m levels (length ws)) (bars Damaged sound (CycleDamage m levels r s ws) ends))
+      decided-either (λ n. cycle_outcome (Err n) ws s) P (needs BadShape (shape_ok m levels (length ws)) (Shape m levels (length ws)) (bars Damaged sound (CycleDamage m levels r s ws) ends))
       (cycle_run m levels r g s ws) (bad, (damaged, tt)) (λ c. done c.0 c.1.0)
 
   pub damage-fails : Fails sound (CycleDamage m levels r s ws)
@@ -80,7 +80,7 @@ steps-none m levels o s ws e =
     let ls : Levels (all_levels levels) = levels_of m (all_levels levels) ws 0 1 in
     and_right (work_ok m (pred levels) (work o 0) ls.0 (top (pred levels) ls.1)) _ e
 
-pub refused-mark : (r : Request) (n : Refusal) → marks r (Refused n) ≡ false
+pub refused-mark : (r : Request) (n : Refusal) → marks r (Err n) ≡ false
 unfolding marks is_refused asks
 refused-mark Idle n = refl
 refused-mark (Push x) n = refl
@@ -127,21 +127,21 @@ module _ (m levels : ℕ) where
   shown o = cycle_outcome o.answer o.words.words o.words.state
 
   -- a refused request has no work and leaves the mark off
-  refused_as : (r : Request) (x : Machine) (n : Refusal) → as_step (cycle_run m levels r (ruling (Refused n) Nothing) x.state x.words) ≡ step (Refused n) ((clock m levels).moves Idle x)
+  refused_as : (r : Request) (x : Machine) (n : Refusal) → as_step (cycle_run m levels r (ruling (Err n) Nothing) x.state x.words) ≡ step (Err n) ((clock m levels).moves Idle x)
   unfolding cycle_run
   refused_as r x n =
-      let o = cycle_run m levels r (ruling (Refused n) Nothing) x.state x.words in
-      let e : marks r (Refused n) ≡ marks Idle Done = refused-mark r n ∙ sym (idle-mark Done) in
-      λ i. step (Refused n) (machine (record { records = o.state.records; mark = e i }) o.words)
+      let o = cycle_run m levels r (ruling (Err n) Nothing) x.state x.words in
+      let e : marks r (Err n) ≡ marks Idle (Ok None) = refused-mark r n ∙ sym (idle-mark (Ok None)) in
+      λ i. step (Err n) (machine (record { records = o.state.records; mark = e i }) o.words)
 
   -- its cycle is the clock's
   same : (r : Request) (x : Machine) → clocked_queue m levels r x ≡ cycling (clock m levels) r x
   unfolding cycled cycle_run rule_marked rule
   same r x =
-      decided-same as_step (λ (o : Outcome Machine). step o.answer o.words) (λ n. cycle_outcome (Refused n) x.words x.state) (left x)
+      decided-same as_step (λ (o : Outcome Machine). step o.answer o.words) (λ n. cycle_outcome (Err n) x.words x.state) (left x)
       (needs BadShape (shape_ok m levels (length x.words)) (Unit {0}) (bars Damaged (sound m levels r x.state x.words) (Unit {0}) ends)) _ _ (λ n. refl)
       (decided-same (λ (g : Ruling). as_step (cycle_run m levels r g x.state x.words)) (λ (g : calls.Ruling Request). step g.answer ((clock m levels).moves g.op x))
-      (λ n. ruling (Refused n) Nothing) (λ n. calls.ruling (Refused n) Idle) ((clock m levels).late r x) _ _ (refused_as r x) refl)
+      (λ n. ruling (Err n) Nothing) (λ n. calls.ruling (Err n) Idle) ((clock m levels).late r x) _ _ (refused_as r x) refl)
 
   pub timed : Ticks (clock m levels) (clocked_queue m levels)
   timed =
@@ -193,9 +193,9 @@ module _ (m levels : ℕ) (r : Request) (s : State) (ws : List ℕ) where
 -- ---- MARK: rows 1 and 2 aside, it is on exactly if an operation was asked for and not refused
 accepts-mean : (a : Answer) → Iff (not (is_refused a) ≡ true) (Unit {0} × (number_of a ≡ 0))
 unfolding is_refused
-accepts-mean Done = record { to = λ e. (tt, refl); from = λ d. refl }
-accepts-mean (Out x) = record { to = λ e. (tt, refl); from = λ d. refl }
-accepts-mean (Refused n) = record { to = λ e. absurd (false≢true e); from = λ d. absurd (zero-told n (sym d.1)) }
+accepts-mean (Ok None) = record { to = λ e. (tt, refl); from = λ d. refl }
+accepts-mean (Ok (Some x)) = record { to = λ e. (tt, refl); from = λ d. refl }
+accepts-mean (Err n) = record { to = λ e. absurd (false≢true e); from = λ d. absurd (zero-told n (sym d.1)) }
 
 marks-mean : (r : Request) (a : Answer) → Iff (marks r a ≡ true) (Asks r × (number_of a ≡ 0))
 unfolding marks asks is_refused

@@ -1,5 +1,5 @@
 -- The length decides nothing on the clock either: two lists of cycles alike but for lengths are answered alike but for lengths.
-use Rattle.laws.specs.Prelude.{Answer, Bool, Done, Idle, List, Out, Pop, Push, Refused, Replace, Request, TooSoon, [], ◌&&◌, ◌∙◌, ◌∷◌, ◌≡◌, ap, ap₂, cond, false, length, map, not-suc-le-zero, refl, suc, sym, true, zero, ℕ}
+use Rattle.laws.specs.Prelude.{Answer, Bool, Idle, List, Pop, Push, Replace, Request, TooSoon, [], ◌&&◌, ◌∙◌, ◌∷◌, ◌≡◌, ap, ap₂, cond, false, length, map, not-suc-le-zero, refl, suc, sym, true, zero, ℕ, Ok, None, Some, Err}
 use Rattle.tree_clock_model.proofs.Demand.{demand-answers}
 use Rattle.tree_clock_model.specs.Prelude.{asks, cycle_answers, is_refused, marks, one_by_one, one_by_one_answers, pops_or_replaces}
 use Rattle.promise.specs.Prelude.{answers, short_answer, short_request}
@@ -23,9 +23,9 @@ asks-short (Replace x) = refl
 
 refused-short : (a : Answer) → is_refused (short_answer a) ≡ is_refused a
 unfolding is_refused
-refused-short Done = refl
-refused-short (Out e) = refl
-refused-short (Refused n) = refl
+refused-short (Ok None) = refl
+refused-short (Ok (Some e)) = refl
+refused-short (Err n) = refl
 
 marks-short : (r : Request) (a : Answer) → marks (short_request r) (short_answer a) ≡ marks r a
 unfolding marks
@@ -41,7 +41,7 @@ module _ (m k : ℕ) where
   unfolding one_by_one
   one-short mark r ws vs p = rw (soon-short r) (go (mark && pops_or_replaces r))
     where
-      go : (b : Bool) → Met (cond b (outcome (Refused TooSoon) ws) (called m (suc k) r ws)) (cond b (outcome (Refused TooSoon) vs) (called m (suc k) (short_request r) vs))
+      go : (b : Bool) → Met (cond b (outcome (Err TooSoon) ws) (called m (suc k) r ws)) (cond b (outcome (Err TooSoon) vs) (called m (suc k) (short_request r) vs))
       go true = record { answer = refl; words = p }
       go false = record { answer = apart-answer m k r ws vs p; words = apart_next m k r ws vs p }
 

@@ -1,5 +1,5 @@
 -- Nothing is lost in flight: no list of cycles and drains loses an element between slots and records.
-use Rattle.laws.specs.Prelude.{Bool, Element, Idle, List, Refused, Request, TooSoon, ◌&&◌, ◌+◌, ◌∙◌, ◌≡◌, ◌≤◌, and_right, and-true, ap, ap₂, arith, cond, false, length, map, not, not-suc-le-zero, refl, subst, suc, sym, true, zero, ℕ}
+use Rattle.laws.specs.Prelude.{Bool, Element, Idle, List, Request, TooSoon, ◌&&◌, ◌+◌, ◌∙◌, ◌≡◌, ◌≤◌, and_right, and-true, ap, ap₂, arith, cond, false, length, map, not, not-suc-le-zero, refl, subst, suc, sym, true, zero, ℕ, Err}
 use Rattle.tree_clock_model.proofs.Balance.{at-rest-none, balance, carried-is, carried_by, gives-work, ruled-sums, Serves, slots-are, slot_sum, struck-is, struck-there, struck_by}
 use Rattle.tree_clock_model.proofs.Demand.{fresh-quiet, idles-done, idles-in-step, settled-words, start-in-step}
 use Rattle.tree_clock_model.proofs.Drain.{drains-as}
@@ -126,7 +126,7 @@ module _ (m k : ℕ) where
       least-same (stored_count (room m (suc k)) vs) (remaining m (suc k) x) (λ f. sym (remains-beside x vs i f)) r _
       (subst (Least (stored_count (room m (suc k)) vs) r) (sym (step-answer m k _ _ vs i r)) (go (x.state.mark && pops_or_replaces r)))
     where
-      go : (t : Bool) → Least (stored_count (room m (suc k)) vs) r (cond t (outcome (Refused TooSoon) vs) (called m (suc k) r vs)).answer
+      go : (t : Bool) → Least (stored_count (room m (suc k)) vs) r (cond t (outcome (Err TooSoon) vs) (called m (suc k) r vs)).answer
       go true = none-least r TooSoon (stored_count (room m (suc k)) vs)
       go false = kept-least m k vs i.kept r
 

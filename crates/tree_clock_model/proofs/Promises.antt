@@ -1,6 +1,6 @@
 -- The promises of the clocked tree beside demand 3: each level does its one step, nothing is damaged, it holds exactly what went in and has
 -- not come out, and what comes out has the lowest rank.
-use Rattle.laws.specs.Prelude.{Answer, BadShape, Bool, Done, Element, List, Refused, Request, TooSoon, [], ◌&&◌, ◌+◌, ◌∙◌, ◌∷◌, ◌≡◌, ◌≤◌, ◌⊎◌, ap, arith, cond, count_number, count_of, false, inl, inr, length, means-off, not, not-suc-le-zero, number_of, pred, refl, refusal_number, subst, suc, sym, true, zero, ℕ}
+use Rattle.laws.specs.Prelude.{Answer, BadShape, Bool, Element, List, Request, TooSoon, [], ◌&&◌, ◌+◌, ◌∙◌, ◌∷◌, ◌≡◌, ◌≤◌, ◌⊎◌, ap, arith, cond, count_number, count_of, false, inl, inr, length, means-off, not, not-suc-le-zero, number_of, pred, refl, refusal_number, subst, suc, sym, true, zero, ℕ, Ok, None, Err}
 use Rattle.tree_clock_model.proofs.Demand.{demand-idles, demand-store, fresh-mark, fresh-quiet, ran-in-step, start-in-step}
 use Rattle.tree_clock_model.proofs.Drain.{drain-state, drains-as}
 use Rattle.tree_clock_model.proofs.Lost.{at-rest-remains, bag, Going, idles-sum, is-clock, lowest, settles, start-remains}
@@ -22,7 +22,7 @@ module _ (m levels : ℕ) where
   calls-words (r ∷ rs) mark vs = go (mark && pops_or_replaces r) (calls-words rs)
     where
       now : Bool → Outcome
-      now t = cond t (outcome (Refused TooSoon) vs) (called m levels r vs)
+      now t = cond t (outcome (Err TooSoon) vs) (called m levels r vs)
 
       go : (t : Bool) → ((b : Bool) (vs : List ℕ) → one_by_one_words m levels rs b vs ≡ leaves (tree_queue m levels) (calls_of m levels rs b vs) vs)
           → one_by_one_words m levels rs (marks r (now t).answer) (now t).words
@@ -32,7 +32,7 @@ module _ (m levels : ℕ) where
 
 -- ---- CLEAR: "A cleared machine has none pending and the mark off"; its words are those of the tree's clear
 pub clear-fresh : (m levels : ℕ) (ws : List ℕ) → Shape m levels (length ws)
-    → (cleared_machine m levels ws ≡ cycle_outcome Done (start m levels ws) fresh) × (pending m levels fresh ≡ false) × (fresh.mark ≡ false)
+    → (cleared_machine m levels ws ≡ cycle_outcome (Ok None) (start m levels ws) fresh) × (pending m levels fresh ≡ false) × (fresh.mark ≡ false)
 unfolding fresh
 clear-fresh m levels ws sh = (
   ap (λ (a : Answer). cycle_outcome a (start m levels ws) fresh) (clear-zeroes m levels ws sh).0,
@@ -45,7 +45,7 @@ pub clear-taken : (m levels : ℕ) (s : State) (ws : List ℕ) → Shape m level
 unfolding clocked_cleared cleared
 clear-taken m levels s ws sh = rw (is-shape m levels (length ws) sh)
 
-pub clear-stands : (m levels : ℕ) (s : State) (ws : List ℕ) → (Shape m levels (length ws) → ⊥) → clocked_cleared m levels s ws ≡ cycle_outcome (Refused BadShape) ws s
+pub clear-stands : (m levels : ℕ) (s : State) (ws : List ℕ) → (Shape m levels (length ws) → ⊥) → clocked_cleared m levels s ws ≡ cycle_outcome (Err BadShape) ws s
 unfolding clocked_cleared
 clear-stands m levels s ws none = rw (means-off (shape-means m levels (length ws)) none)
 

@@ -1,6 +1,6 @@
 -- One cycle keeps the clocked tree in step with the one-at-a-time tree beside it: the same answer, no damage, and all that is pending,
 -- done to its end, gives that tree's store.
-use Rattle.laws.specs.Prelude.{Bool, Done, Idle, List, Refused, Request, TooSoon, [], ◌&&◌, ◌*◌, ◌+◌, ◌<◌, ◌∙◌, ◌≡◌, ◌≤◌, and_left, and_right, ap, ap₂, arith, cond, false, false≢true, get_or, length, not, or_right, refl, subst, suc, sym, true, true≢false, zero, ℕ}
+use Rattle.laws.specs.Prelude.{Bool, Idle, List, Request, TooSoon, [], ◌&&◌, ◌*◌, ◌+◌, ◌<◌, ◌∙◌, ◌≡◌, ◌≤◌, and_left, and_right, ap, ap₂, arith, cond, false, false≢true, get_or, length, not, or_right, refl, subst, suc, sym, true, true≢false, zero, ℕ, Ok, None, Err}
 use Rattle.tree_clock_model.proofs.Clock.{clears, settled, spaced}
 use Rattle.tree_clock_model.proofs.Turn.{after-length, cycle-length, plain-rest, words-cycle, works-after}
 use Rattle.tree_clock_model.proofs.Undamaged.{cycle-fine, cycle-ready}
@@ -48,7 +48,7 @@ rule_marked-gap : (mark : Bool) (r : Request) (g : Ruling) (G : Type 0) → (mar
 unfolding rule_marked
 rule_marked-gap mark r g G off h = go mark (pops_or_replaces r) off h
   where
-    go : (b t : Bool) → (b ≡ false → G) → ((t ≡ true → G) → Gap g.op G) → Gap (cond (b && t) (ruling (Refused TooSoon) Nothing) g).op G
+    go : (b t : Bool) → (b ≡ false → G) → ((t ≡ true → G) → Gap g.op G) → Gap (cond (b && t) (ruling (Err TooSoon) Nothing) g).op G
     go true true off h = tt
     go true false off h = h (λ e. absurd (false≢true e))
     go false true off h = h (λ e. off refl)
@@ -70,12 +70,12 @@ rule_marked-unmarked : (mark : Bool) (r : Request) (g : Ruling) → (marks r g.a
 unfolding rule_marked
 rule_marked-unmarked mark r g h e = go (mark && pops_or_replaces r) e
   where
-    go : (t : Bool) → marks r (cond t (ruling (Refused TooSoon) Nothing) g).answer ≡ false → (cond t (ruling (Refused TooSoon) Nothing) g).op ≡ Nothing
+    go : (t : Bool) → marks r (cond t (ruling (Err TooSoon) Nothing) g).answer ≡ false → (cond t (ruling (Err TooSoon) Nothing) g).op ≡ Nothing
     go true e = refl
     go false e = h e
 
 -- an idle request is answered done, and has no work
-pub idle-ruling : (mark : Bool) (c : ℕ) (nd : List Slot) → rule_marked mark Idle (rule c Idle nd) ≡ ruling Done Nothing
+pub idle-ruling : (mark : Bool) (c : ℕ) (nd : List Slot) → rule_marked mark Idle (rule c Idle nd) ≡ ruling (Ok None) Nothing
 unfolding rule_marked rule pops_or_replaces
 idle-ruling true c nd = refl
 idle-ruling false c nd = refl
@@ -100,17 +100,17 @@ module _ (m k : ℕ) (vs : List ℕ) (kept : Kept m k vs) (mark : Bool) (r : Req
   unfolding one_by_one rule_marked
   one-by-one-is = go (mark && pops_or_replaces r)
     where
-      go : (t : Bool) → cond t (outcome (Refused TooSoon) vs) (called m (suc k) r vs)
-          ≡ outcome (cond t (ruling (Refused TooSoon) Nothing) (rule_at m (suc k) r vs)).answer
-          (apply_words m (suc k) (work (cond t (ruling (Refused TooSoon) Nothing) (rule_at m (suc k) r vs)).op 0) 0 1 vs)
-      go true = ap (outcome (Refused TooSoon)) (sym (words-none m (suc k) (work Nothing 0) 0 1 vs (op-work Nothing 0)))
+      go : (t : Bool) → cond t (outcome (Err TooSoon) vs) (called m (suc k) r vs)
+          ≡ outcome (cond t (ruling (Err TooSoon) Nothing) (rule_at m (suc k) r vs)).answer
+          (apply_words m (suc k) (work (cond t (ruling (Err TooSoon) Nothing) (rule_at m (suc k) r vs)).op 0) 0 1 vs)
+      go true = ap (outcome (Err TooSoon)) (sym (words-none m (suc k) (work Nothing 0) 0 1 vs (op-work Nothing 0)))
       go false = kept-called m k vs kept r
 
   rule_marked-way : way_ok m (suc k) h.op vs ≡ true
   unfolding rule_marked
   rule_marked-way = go (mark && pops_or_replaces r)
     where
-      go : (t : Bool) → way_ok m (suc k) (cond t (ruling (Refused TooSoon) Nothing) (rule_at m (suc k) r vs)).op vs ≡ true
+      go : (t : Bool) → way_ok m (suc k) (cond t (ruling (Err TooSoon) Nothing) (rule_at m (suc k) r vs)).op vs ≡ true
       go true = path-none m (suc k) (work Nothing 0) _ (op-work Nothing 0)
       go false = sound-way m k vs kept r
 
@@ -118,7 +118,7 @@ module _ (m k : ℕ) (vs : List ℕ) (kept : Kept m k vs) (mark : Bool) (r : Req
   unfolding one_by_one
   one-by-one-kept = go (mark && pops_or_replaces r)
     where
-      go : (t : Bool) → Kept m k (cond t (outcome (Refused TooSoon) vs) (called m (suc k) r vs)).words
+      go : (t : Bool) → Kept m k (cond t (outcome (Err TooSoon) vs) (called m (suc k) r vs)).words
       go true = kept
       go false = called-kept m k r vs kept
 

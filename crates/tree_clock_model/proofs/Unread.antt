@@ -1,5 +1,5 @@
 -- What a cycle and a drain never read: two machines that are alike are answered the same, and are alike again.
-use Rattle.laws.specs.Prelude.{Answer, Bool, Done, Idle, List, Request, ◌&&◌, ◌||◌, ◌∙◌, ◌≡◌, ◌≤◌, and_right, ap, ap₂, arith, cond, false, length, not, not-suc-le-zero, pred, refl, subst, suc, sym, true, zero, ℕ}
+use Rattle.laws.specs.Prelude.{Answer, Bool, Idle, List, Request, ◌&&◌, ◌||◌, ◌∙◌, ◌≡◌, ◌≤◌, and_right, ap, ap₂, arith, cond, false, length, not, not-suc-le-zero, pred, refl, subst, suc, sym, true, zero, ℕ, Ok, None}
 use Rattle.tree_clock_model.proofs.Drain.{cycled-length}
 use Rattle.tree_clock_model.proofs.Exactly.{sound, cycled-damaged, cycled-either, cycled-fine}
 use Rattle.tree_clock_model.proofs.Turn.{after-length, plain-rest, words-cycle, works-after}
@@ -119,7 +119,7 @@ module _ (m levels : ℕ) where
       on z = drain_from m levels b (suc n) (next z).next.state (next z).next.words
 
       rest : Machine → DrainOutcome
-      rest z = drain_outcome Done n false z.words z.state
+      rest z = drain_outcome (Ok None) n false z.words z.state
 
       same-pending : pending m levels x.state ≡ pending m levels y.state
       same-pending = ap (λ (p : Works (pred levels)). not (quiet (pred levels) p)) a.works

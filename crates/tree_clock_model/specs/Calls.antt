@@ -1,6 +1,6 @@
 -- The calls of the clocked tree, each a total function of order, levels, words and state to what it answers and leaves.
 use Rattle.std.specs.Prelude.{◌&&◌, ◌||◌}
-use Rattle.laws.specs.Prelude.{Answer, BadShape, Bool, Damaged, Done, Idle, List, Pop, Push, Refused, Replace, Request, TooSoon, cond, false, length, not, pred, replicate, suc, true, zero, ℕ}
+use Rattle.laws.specs.Prelude.{Answer, BadShape, Bool, Damaged, Idle, List, Pop, Push, Replace, Request, TooSoon, cond, false, length, not, pred, replicate, suc, true, zero, ℕ, Ok, None, Err}
 use Rattle.tree_clock_model.specs.Cycle.{cycle_ok, cycle_words, quiet, Works}
 use Rattle.tree_clock_model.specs.Records.{records_after, works_of}
 use Rattle.tree_clock_model.specs.declared.State.{State}
@@ -18,7 +18,7 @@ pops_or_replaces (Replace x) = true
 
 -- "too soon: clocked pop or replace with the mark on"; any other request comes to what it would at rest
 unfoldable pub rule_marked : Bool → Request → Ruling → Ruling
-rule_marked mark r g = cond (mark && pops_or_replaces r) (ruling (Refused TooSoon) Nothing) g
+rule_marked mark r g = cond (mark && pops_or_replaces r) (ruling (Err TooSoon) Nothing) g
 
 -- the mark: "was the last cycle's operation answered without refusal?"
 unfoldable pub marks : Request → Answer → Bool
@@ -87,8 +87,8 @@ module _ (m levels : ℕ) where
   unfoldable pub cycled : Request → State → List ℕ → CycleOutcome
   cycled r s ws =
       cond (shape_ok m levels (length ws))
-      (cond (asked_ok r ws && steps_ok (rule_now r s ws).op s ws) (cycle_run r (rule_now r s ws) s ws) (cycle_outcome (Refused Damaged) ws s))
-      (cycle_outcome (Refused BadShape) ws s)
+      (cond (asked_ok r ws && steps_ok (rule_now r s ws).op s ws) (cycle_run r (rule_now r s ws) s ws) (cycle_outcome (Err Damaged) ws s))
+      (cycle_outcome (Err BadShape) ws s)
 
   -- ---- drain
   -- is work pending? "records past the last level" are not counted
@@ -98,16 +98,16 @@ module _ (m levels : ℕ) where
   -- "runs idle cycles until nothing is pending or the budget is spent"; "stops at 2 and reports the cycles already run, work left". A
   -- refused cycle has left everything
   unfoldable pub drain_from : ℕ → ℕ → State → List ℕ → DrainOutcome
-  drain_from zero n s ws = drain_outcome Done n (pending s) ws s
+  drain_from zero n s ws = drain_outcome (Ok None) n (pending s) ws s
   drain_from (suc b) n s ws =
       let o = cycled Idle s ws in
       cond (pending s)
       (cond (is_refused o.answer) (drain_outcome o.answer n true o.words o.state) (drain_from b (suc n) o.state o.words))
-      (drain_outcome Done n false ws s)
+      (drain_outcome (Ok None) n false ws s)
 
   -- "at 1 it reports 0 and no work left"
   unfoldable pub drains : ℕ → State → List ℕ → DrainOutcome
-  drains budget s ws = cond (shape_ok m levels (length ws)) (drain_from budget 0 s ws) (drain_outcome (Refused BadShape) 0 false ws s)
+  drains budget s ws = cond (shape_ok m levels (length ws)) (drain_from budget 0 s ws) (drain_outcome (Err BadShape) 0 false ws s)
 
   -- ---- clear and held; the call held is that of the tree, `counted`
   -- a machine that was never used, cleared: zeros, nothing pending and the mark off
@@ -116,4 +116,4 @@ module _ (m levels : ℕ) where
 
   -- "Clear writes zeros"; refused it leaves everything, the state that it is handed too
   unfoldable pub clocked_cleared : State → List ℕ → CycleOutcome
-  clocked_cleared s ws = cond (shape_ok m levels (length ws)) (cycle_outcome Done (wipe (room m levels) ws) fresh) (cycle_outcome (Refused BadShape) ws s)
+  clocked_cleared s ws = cond (shape_ok m levels (length ws)) (cycle_outcome (Ok None) (wipe (room m levels) ws) fresh) (cycle_outcome (Err BadShape) ws s)

@@ -1,7 +1,7 @@
 -- 01's worked case 6, as a list of words after each cycle; case 10, an empty machine, and elements without a tag, by their answers; lengths on their way;
 -- machines stopped in the middle of a pop and of a swap, by what remains.
 use Rattle.std.specs.Prelude.{◌++◌, ◌∷◌}
-use Rattle.laws.specs.Prelude.{Answer, Bool, Done, Element, Empty, Idle, List, NoTag, Out, Pop, Push, Refused, Replace, Request, TooSoon, [], element, get_or, map, replicate, ℕ}
+use Rattle.laws.specs.Prelude.{Answer, Bool, Element, Empty, Idle, List, NoTag, Pop, Push, Replace, Request, TooSoon, [], element, get_or, map, replicate, ℕ, Ok, None, Some, Err}
 use Rattle.tree_clock_model.specs.Calls.{drains}
 use Rattle.tree_clock_model.specs.Lost.{carried, in_slots, remaining, struck}
 use Rattle.tree_clock_model.specs.Promise.{clocked_queue, cycle_answers, Machine, machine, ran}
@@ -32,7 +32,7 @@ unfoldable pub case_ten : List Answer
 case_ten = cycle_answers 2 2 (Push (element 5 50 0) ∷ Idle ∷ Pop ∷ Push (element 1 10 0) ∷ Push (element 2 20 0) ∷ Pop ∷ Pop ∷ []) (replicate 24 0)
 
 abbrev pub case_ten_says : List Answer
-case_ten_says = Done ∷ Done ∷ Out (element 5 50 0) ∷ Done ∷ Done ∷ Refused TooSoon ∷ Out (element 1 10 0) ∷ []
+case_ten_says = (Ok None) ∷ (Ok None) ∷ Ok (Some (element 5 50 0)) ∷ (Ok None) ∷ (Ok None) ∷ Err TooSoon ∷ Ok (Some (element 1 10 0)) ∷ []
 
 -- "an empty queue refuses replace with 6 (clocked: as idle)": a pop just after it is not too soon. And "the lowest held element is answered, even if the
 -- new rank is lower": 0/7 is taken in, and a later pop gives it
@@ -40,7 +40,7 @@ unfoldable pub case_empty : List Answer
 case_empty = cycle_answers 2 2 (Replace (element 5 50 0) ∷ Pop ∷ Push (element 1 10 0) ∷ Replace (element 0 7 0) ∷ Replace (element 0 7 0) ∷ Idle ∷ Pop ∷ []) (replicate 24 0)
 
 abbrev pub case_empty_says : List Answer
-case_empty_says = Refused Empty ∷ Refused Empty ∷ Done ∷ Refused TooSoon ∷ Out (element 1 10 0) ∷ Done ∷ Out (element 0 7 0) ∷ []
+case_empty_says = Err Empty ∷ Err Empty ∷ (Ok None) ∷ Err TooSoon ∷ Ok (Some (element 1 10 0)) ∷ (Ok None) ∷ Ok (Some (element 0 7 0)) ∷ []
 
 -- "Push and replace with tag 0 are to be refused with a new number 7 .. after 3 in the clocked tree .., a clocked refusal counts as an idle cycle": a pop
 -- just after it is not too soon
@@ -49,7 +49,7 @@ case_untagged =
     cycle_answers 2 2 (Push (element 5 0 0) ∷ Pop ∷ Push (element 5 50 0) ∷ Replace (element 1 0 0) ∷ Replace (element 1 0 0) ∷ Push (element 1 0 0) ∷ Pop ∷ []) (replicate 24 0)
 
 abbrev pub case_untagged_says : List Answer
-case_untagged_says = Refused NoTag ∷ Refused Empty ∷ Done ∷ Refused TooSoon ∷ Refused NoTag ∷ Refused NoTag ∷ Out (element 5 50 0) ∷ []
+case_untagged_says = Err NoTag ∷ Err Empty ∷ (Ok None) ∷ Err TooSoon ∷ Err NoTag ∷ Err NoTag ∷ Ok (Some (element 5 50 0)) ∷ []
 
 -- [9] "The strip's length travels with it": store A with lengths, replace 4/7 and pop. What stands pending at level 2, and the words, after the fourth push, the
 -- replace, the pop, and one idle cycle more
@@ -79,7 +79,7 @@ unfoldable pub case_length_answers : List Answer
 case_length_answers = cycle_answers 2 2 (length_cycles ++ (Idle ∷ Replace (element 4 7 70) ∷ Idle ∷ Pop ∷ [])) (replicate 24 0)
 
 abbrev pub case_length_answers_say : List Answer
-case_length_answers_say = Done ∷ Done ∷ Done ∷ Done ∷ Done ∷ Out (element 1 10 100) ∷ Done ∷ Out (element 3 30 300) ∷ []
+case_length_answers_say = (Ok None) ∷ (Ok None) ∷ (Ok None) ∷ (Ok None) ∷ (Ok None) ∷ Ok (Some (element 1 10 100)) ∷ (Ok None) ∷ Ok (Some (element 3 30 300)) ∷ []
 
 -- A clocked, drained, and stopped in the middle of a request: how often 1/10, 3/30, 4/7, 5/50 and 8/80 each stand in the slots, are carried, are struck out,
 -- and remain (02 [14])

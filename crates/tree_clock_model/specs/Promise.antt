@@ -1,6 +1,6 @@
 -- What is promised of the clocked tree is said in these words: the one-at-a-time tree beside it, idle cycles, and 01's causes of refusal.
 use Rattle.std.specs.Prelude.{◌&&◌, ◌*◌, ◌+◌, ◌<◌, ◌^◌, ◌∷◌, ◌≡◌, ◌≤◌, ◌⊎◌}
-use Rattle.laws.specs.Prelude.{Answer, BadShape, Bool, Damaged, Done, Element, Idle, Ladder, List, NoTag, Out, Pop, Push, Refusal, Refused, Replace, Request, TooSoon, [], cond, false, fine, get_or, length, not, number_of, pred, replicate, rung, stop, suc, sum_to, true, zero, ℕ}
+use Rattle.laws.specs.Prelude.{Answer, BadShape, Bool, Damaged, Element, Idle, Ladder, List, NoTag, Pop, Push, Refusal, Replace, Request, TooSoon, [], cond, false, fine, get_or, length, not, number_of, pred, replicate, rung, stop, suc, sum_to, true, zero, ℕ, Ok, None, Some, Err}
 use Rattle.tree_clock_model.specs.Calls.{all_levels, asked_ok, cycle_outcome, CycleOutcome, cycle_run, cycle_work, drain_outcome, DrainOutcome, fresh, from_two, rule_now, marks, pending, pops_or_replaces, cycled, steps_ok}
 use Rattle.tree_clock_model.specs.Cycle.{Works}
 use Rattle.tree_clock_model.specs.Records.{record_at, works_of}
@@ -8,7 +8,7 @@ use Rattle.tree_clock_model.specs.declared.State.{State}
 use Rattle.promise.specs.Prelude.{Asks, Clock, Step, Stuck, Untagged, answers, grants, hit, last_table, leaves, limits, step, stops}
 pub use Rattle.strip.specs.Answers.{has_run, runs_idle}
 use Rattle.promise.specs.Flight as flights
-use Rattle.tree_model.specs.Prelude.{Agree, Level, Levels, NodeDamaged, Outcome, Shape, Some, WorkDamaged, called, four_words, idle, level_at, levels_of, low, op_of, outcome, room, root_of, root_ok, ruling, shape_ok, start, step_level, step_work, stored_count, sum_counts, top, wipe, work}
+use Rattle.tree_model.specs.Prelude.{Agree, Level, Levels, NodeDamaged, Outcome, Shape, IsWork, WorkDamaged, called, four_words, idle, level_at, levels_of, low, op_of, outcome, room, root_of, root_ok, ruling, shape_ok, start, step_level, step_work, stored_count, sum_counts, top, wipe, work}
 use Rattle.tree_model.specs.declared.Op.TheVariants.{Nothing}
 use Rattle.tree_model.specs.declared.Work.{Work}
 pub use Rattle.promise.specs.Drains.{capped, is_bad_shape}
@@ -47,7 +47,7 @@ module _ (m levels : ℕ) where
   -- ---- the one-at-a-time tree beside it, as a queue of the mark and the words
   -- a pop or replace with the mark on is too soon and is left out; every other request is a call
   unfoldable pub one_by_one : Bool → Request → List ℕ → Outcome
-  one_by_one mark r vs = cond (mark && pops_or_replaces r) (outcome (Refused TooSoon) vs) (called m levels r vs)
+  one_by_one mark r vs = cond (mark && pops_or_replaces r) (outcome (Err TooSoon) vs) (called m levels r vs)
 
   -- .. the mark going by the answers
   abbrev pub one_by_one_queue : Request → Bool × List ℕ → Step Answer (Bool × List ℕ)
@@ -120,7 +120,7 @@ cycle_refusals m levels r s ws =
 abbrev pub cycle_left : ℕ → ℕ → State → List ℕ → Refusal → CycleOutcome
 cycle_left m levels s ws n =
     let x = cond {A = Machine} (runs_idle n) (idles m levels 1 s ws) (machine s ws) in
-    cycle_outcome (Refused n) x.words x.state
+    cycle_outcome (Err n) x.words x.state
 
 -- a refused drain: within the budget and with work pending all along, so many idle cycles run and the next meets damage
 abbrev pub Jams : ℕ → ℕ → ℕ → ℕ → State → List ℕ → Type 0
@@ -134,7 +134,7 @@ drain_refusals m levels budget s ws = rung BadShape (Shape m levels (length ws))
 abbrev pub drain_left : ℕ → ℕ → ℕ → State → List ℕ → Refusal → DrainOutcome
 drain_left m levels cycles s ws n =
     let ran = cond (is_bad_shape n) 0 cycles in
-    drain_outcome (Refused n) ran (not (is_bad_shape n)) (idles m levels ran s ws).words (idles m levels ran s ws).state
+    drain_outcome (Err n) ran (not (is_bad_shape n)) (idles m levels ran s ws).words (idles m levels ran s ws).state
 
 -- ---- one step: what a cycle with no damage does to the levels and the records, by what stood at its start. The topmost level is 0
 module _ (m levels : ℕ) where
@@ -154,9 +154,9 @@ module _ (m levels : ℕ) where
 -- a record: q is what the level above leaves for it, w what it was, v what it is then
 pub record Recorded (q w v : Work) : Type 0 where
   -- "it loads the next level's record"
-  pub loaded : Some q.op → v ≡ q
+  pub loaded : IsWork q.op → v ≡ q
   -- work done and nothing loaded: "Numbers that a record's kind doesn't use are written 0"
-  pub finished : q.op ≡ Nothing → Some w.op → v ≡ record { op = Nothing; node = 0 }
+  pub finished : q.op ≡ Nothing → IsWork w.op → v ≡ record { op = Nothing; node = 0 }
   -- "A level with nothing to do changes no word"
   pub stands : q.op ≡ Nothing → w.op ≡ Nothing → v ≡ w
 
@@ -208,11 +208,11 @@ module _ (m levels : ℕ) where
     -- .. and refused it leaves what the refused pop leaves
     pub refused : (number_of (clocked_queue m levels (Replace e) x).said ≡ 0 → ⊥) → clocked_queue m levels (Replace e) x ≡ clocked_queue m levels Pop x
     -- not refused, a push in the cycle after the pop is taken ..
-    pub taken : number_of (clocked_queue m levels (Replace e) x).said ≡ 0 → (clocked_queue m levels (Push e) (clocked_queue m levels Pop x).next).said ≡ Done
+    pub taken : number_of (clocked_queue m levels (Replace e) x).said ≡ 0 → (clocked_queue m levels (Push e) (clocked_queue m levels Pop x).next).said ≡ Ok None
     -- .. and, idled, of every kind of element as many are stored as after those two cycles; levels - 1 idle cycles are enough
     pub idled : Rests (from_two levels) x × Rests (from_two levels) (clocked_queue m levels (Replace e) x).next × Rests (from_two levels) (leaves (clocked_queue m levels) (Pop ∷ Push e ∷ []) x)
     pub stores : number_of (clocked_queue m levels (Replace e) x).said ≡ 0 → (i j : ℕ) → Rests i (clocked_queue m levels (Replace e) x).next → Rests j (leaves (clocked_queue m levels) (Pop ∷ Push e ∷ []) x)
         → (f : Element → Bool) → stored_then i (clocked_queue m levels (Replace e) x).next f ≡ stored_then j (leaves (clocked_queue m levels) (Pop ∷ Push e ∷ []) x) f
     -- that is what would have been stored without it, less what is answered, and the newcomer
-    pub swapped : (o : Element) → (clocked_queue m levels (Replace e) x).said ≡ Out o → (i j : ℕ) → Rests i (clocked_queue m levels (Replace e) x).next → Rests j x
+    pub swapped : (o : Element) → (clocked_queue m levels (Replace e) x).said ≡ Ok (Some o) → (i j : ℕ) → Rests i (clocked_queue m levels (Replace e) x).next → Rests j x
         → (f : Element → Bool) → stored_then i (clocked_queue m levels (Replace e) x).next f + hit (f o) ≡ stored_then j x f + hit (f e)

@@ -1,10 +1,10 @@
 // The types of the clocked tree that go by value. Its rules are in specs/, the theorems in proofs/.
 #![tactic(auto)]
 
-use strip::Answer;
 use tree_model::Work;
 
 // How many records there are: one for each level from 2, as many as order 2 needs, that has the most levels, 15.
+// They stand in an array, with the levels beside it: the card has no heap.
 pub const RECORDS: usize = 14;
 
 // What stands beside the store between two cycles: the pending records, that of level 2 first, and whether the last cycle's operation was
@@ -16,17 +16,7 @@ pub struct State {
 }
 
 // What a cycle answers, and the state that it leaves.
-#[derive(Clone, Copy)]
-pub struct Cycled {
-    pub answer: Answer,
-    pub state: State,
-}
+pub type Cycled = strip::Cycled<State>;
 
 // What a drain reports: done or a refusal, the number of cycles run, whether work is left, and the state that it leaves.
-#[derive(Clone, Copy)]
-pub struct Drained {
-    pub answer: Answer,
-    pub cycles: usize,
-    pub left: bool,
-    pub state: State,
-}
+pub type Drained = strip::Drained<State>;

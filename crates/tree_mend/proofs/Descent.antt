@@ -1,10 +1,10 @@
 -- The check by descent: what a node's loop and a slot's calls make together.
+use Rattle.std.specs.Prelude.{Err, Ok}
 use Rattle.laws.specs.Prelude.{BadShape, Bool, List, ◌*◌, ◌+◌, ◌-◌, ◌<◌, ◌∙◌, ◌≡◌, ◌≤◌, add-one, ap, ap₂, arith, false, length, lt-ltb, ltb, ltb-true, mul-le-mul_right, not, not-false, not-suc-le-zero, not-true, refl, subst, suc, sym, true, zero, ℕ}
 use Rattle.tree_model.specs.Prelude.{room, shape_ok, slot_limit, slot_of, slot_words}
 use Rattle.tree_model.specs.declared.Slot.{Slot}
 use Rattle.tree_mend_model.proofs.Laws.{room-grows, room-step}
 use Rattle.tree_mend_model.specs.Check.{broken, descended, each, node_whole, slot_whole, under_of}
-use Rattle.tree_mend_model.specs.declared.Bare.TheVariants.{Yes, No, Unasked}
 use Rattle.tree_mend.specs.Lie.{NodeLies, SlotIn, SlotLies, under_if}
 
 -- ---- where nodes and slots lie
@@ -120,14 +120,10 @@ module _ (m k above : ℕ) (ws : List ℕ) (p : ℕ) (b : Bool) (own : b ≡ bro
   slot-on e rank f r g = rw (own-as, e) (g ∙ ap₂ (node_whole m k ws) (add-one p) f)
 
 -- ---- the call
-pub descent-shape : (m levels : ℕ) (ws : List ℕ) (t : Bool) → t ≡ shape_ok m levels (length ws) → not t ≡ true → Unasked BadShape ≡ descended m levels ws
+pub descent-shape : (m levels : ℕ) (ws : List ℕ) (t : Bool) → t ≡ shape_ok m levels (length ws) → not t ≡ true → Err BadShape ≡ descended m levels ws
 unfolding descended
 descent-shape m levels ws t e p = rw (← e, not-true t p)
 
-pub descent-yes : (m levels : ℕ) (ws : List ℕ) (t : Bool) → t ≡ shape_ok m levels (length ws) → not t ≡ false → (r : Bool) → r ≡ node_whole m levels ws 0 0 → r ≡ true → Yes ≡ descended m levels ws
+pub descent-told : (m levels : ℕ) (ws : List ℕ) (t : Bool) → t ≡ shape_ok m levels (length ws) → not t ≡ false → (r : Bool) → r ≡ node_whole m levels ws 0 0 → Ok r ≡ descended m levels ws
 unfolding descended
-descent-yes m levels ws t e y r f g = rw (← e, not-false t y, ← f, g)
-
-pub descent-no : (m levels : ℕ) (ws : List ℕ) (t : Bool) → t ≡ shape_ok m levels (length ws) → not t ≡ false → (r : Bool) → r ≡ node_whole m levels ws 0 0 → r ≡ false → No ≡ descended m levels ws
-unfolding descended
-descent-no m levels ws t e y r f g = rw (← e, not-false t y, ← f, g)
+descent-told m levels ws t e y r f = rw (← e, not-false t y, ← f)

@@ -1,4 +1,5 @@
 -- The mender's loop over the slots.
+use Rattle.std.specs.Prelude.{Err, Ok}
 use Rattle.laws.specs.Prelude.{Answer, BadShape, Bool, List, Push, ◌&&◌, ◌+◌, ◌-◌, ◌<◌, ◌^◌, ◌∙◌, ◌∷◌, ◌≡◌, ◌≤◌, add-one, ap, ap₂, arith, cond, eq-eqb, false, length, ne_eqb, not, not-false, not-suc-le-zero, not-true, refl, subst, suc, sym, true, untagged, zero, ℕ}
 use Rattle.tree_model.specs.Prelude.{Outcome, Shape, called, cleared, is_empty, outcome, room, shape_ok, slot_of, start, tree_queue}
 use Rattle.promise.specs.Prelude.{hit, leaves}
@@ -10,7 +11,6 @@ use Rattle.tree_mend.specs.Lie.{SlotsLie}
 use Rattle.tree_mend.specs.Settle.{Cleared, Mendable, settled, settled_if, Settles}
 use Rattle.tree_mend_model.proofs.Laws.{has-tag}
 use Rattle.tree_mend_model.specs.Mend.{keeps, mended, mended_as, mend_slot, pushes, skipped, skips}
-use Rattle.tree_mend_model.specs.declared.Mend.TheVariants.{Skipped, Unmended}
 
 -- ---- one slot
 module _ (m p s : ℕ) (a : Slot) (to : List ℕ) where
@@ -146,12 +146,12 @@ made m zero ws to sh slots s to₀ v c d = absurd (not-suc-le-zero sh.some)
 made m (suc k) ws to sh slots s to₀ v c d = d k (record { before = to; shape = sh; clear = c }) s
 
 module _ (m levels : ℕ) (ws to : List ℕ) (t : Bool) (first : t ≡ shape_ok m levels (length ws)) where
-  pub mend-first : not t ≡ true → mended_as (Unmended BadShape) to ≡ mended m levels ws to
+  pub mend-first : not t ≡ true → mended_as (Err BadShape) to ≡ mended m levels ws to
   unfolding mended
   mend-first p = rw (← first, not-true t p)
 
   module _ (yes : not t ≡ false) (u : Bool) (second : u ≡ shape_ok m levels (length to)) where
-    pub mend-second : not u ≡ true → mended_as (Unmended BadShape) to ≡ mended m levels ws to
+    pub mend-second : not u ≡ true → mended_as (Err BadShape) to ≡ mended m levels ws to
     unfolding mended
     mend-second p = rw (← first, not-false t yes, ← second, not-true u p)
 
@@ -164,7 +164,7 @@ module _ (m levels : ℕ) (ws to : List ℕ) (t : Bool) (first : t ≡ shape_ok 
 
     pub mend-done : (p : not u ≡ false) (slots : ℕ) → slots ≡ room m levels → (r : Answer) (to₀ : List ℕ) → outcome r to₀ ≡ cleared m levels to
         → (n : ℕ) (v : List ℕ) → (n ≡ skipped ws 0 slots) × ((k : ℕ) → Cleared m (suc k) to₀ → slots ≡ room m (suc k) → v ≡ leaves (tree_queue m (suc k)) (pushes ws 0 slots) to₀)
-        → mended_as (Skipped n) v ≡ mended m levels ws to
+        → mended_as (Ok n) v ≡ mended m levels ws to
     unfolding mended
     mend-done p slots s r to₀ c n v d =
         let w : v ≡ leaves (tree_queue m levels) (pushes ws 0 (room m levels)) (cleared m levels to).words =

@@ -1,5 +1,5 @@
 -- The path of one push by arithmetic, node by node; and a slot's part in the mending.
-use Rattle.laws.specs.Prelude.{Bool, Element, List, ◌%◌, ◌*◌, ◌+◌, ◌-◌, ◌/◌, ◌<◌, ◌^◌, ◌∙◌, ◌≡◌, ◌≤◌, ◌⊎◌, add-one, ap, ap₂, arith, cond, false, keep, le-ltb, length, lt-ltb, ltb, ltb-false, ltb-true, pass, refl, subst, suc, sym, true, zero, ℕ, ⊎_elim}
+use Rattle.laws.specs.Prelude.{Bool, Element, List, ◌%◌, ◌*◌, ◌+◌, ◌-◌, ◌/◌, ◌<◌, ◌∙◌, ◌≡◌, ◌≤◌, add-one, ap, ap₂, arith, cond, false, keep, le-ltb, length, lt-ltb, ltb, ltb-false, pass, refl, subst, suc, sym, true, zero, ℕ}
 use native.Mathlib.Nat.{div-le_self, mod-eq-sub-div-mul, mod-lt, mul-le-mul}
 use Rattle.tree_model.proofs.Laws.{write-length}
 use Rattle.tree_model.specs.Prelude.{room, slot_limit, slot_of, slot_words, write}
@@ -137,7 +137,3 @@ settle-begins m shift n x ws s =
       same = refl;
       whole = λ k d. settled-any m s.below k 0 n x ws l.order s.deep d;
     }
-
--- the last of the three orders
-pub power-three : (m : ℕ) → (m ≡ 2) ⊎ (m ≡ 4) ⊎ (m ≡ 8) → (m ≡ 2 → ⊥) → (m ≡ 4 → ⊥) → (m ≡ 2 ^ 3) × (3 < 64)
-power-three m e two four = ⊎_elim (λ a. absurd (two a)) (λ d. ⊎_elim (λ b. absurd (four b)) (λ c. (c, omega arith)) d) e

@@ -1,6 +1,6 @@
 -- A tree that is only pushed into fills evenly: after n pushes place j of a node has had n / m of them, and one more where j is below n mod m. So the next
 -- push goes to place n mod m, at every node of its path.
-use Rattle.laws.specs.Prelude.{Bool, Element, List, Push, ◌%◌, ◌*◌, ◌+◌, ◌-◌, ◌/◌, ◌<◌, ◌∙◌, ◌≡◌, ◌≤◌, ◌⊎◌, all-at, ap, ap₂, arith, cond, eqb, eqb-false, eqb-true, false, get_or, get_or-set_other, get_or-set_same, inl, inr, keep, le-ltb, length, lt-ltb, ltb, ltb-false, ltb-true, mul-le-mul_right, pass, refl, set, subst, suc, sym, true, untagged, zero, ℕ}
+use Rattle.laws.specs.Prelude.{Bool, Element, List, Push, ◌%◌, ◌*◌, ◌+◌, ◌-◌, ◌/◌, ◌<◌, ◌∙◌, ◌≡◌, ◌≤◌, ◌⊎◌, all-at, ap, arith, cond, eqb, eqb-false, eqb-true, false, get_or, get_or-set_other, get_or-set_same, inl, inr, keep, le-ltb, length, lt-ltb, ltb, ltb-false, ltb-true, mul-le-mul_right, pass, refl, set, subst, suc, sym, true, untagged, zero, ℕ}
 use native.Mathlib.Nat.{add-mul, div-add-mod', div-eq_of_lt, div-eq_of_lt-le, div-mul-le_self, mod-eq_of_lt, mod-lt, mul_comm, zero-div, zero-mod}
 use Rattle.promise.proofs.Kept.{let-in}
 use Rattle.promise.specs.Prelude.{always, hit}

@@ -1,4 +1,5 @@
 -- What a tested shape says of the store: where its words, nodes and slots lie.
+use Rattle.std.specs.Prelude.{Err}
 use Rattle.laws.specs.Prelude.{BadShape, Bool, List, ◌*◌, ◌+◌, ◌<◌, ◌∙◌, ◌≡◌, ◌≤◌, ap, arith, false, length, not, not-false, not-true, sub-one, subst, sym, true, ℕ, ⊎_elim}
 use Rattle.tree_node.proofs.Shapes.{shaped-below, shaped-slots}
 use Rattle.tree_node.specs.Shaping.{Shaped}
@@ -6,7 +7,6 @@ use Rattle.tree_node.specs.declared.shape.Shape as shape
 use Rattle.tree_model.proofs.Laws.{shape_is}
 use Rattle.tree_model.specs.Prelude.{Shape, room, shape_ok, slot_limit, slot_words}
 use Rattle.tree_mend_model.specs.Check.{checked}
-use Rattle.tree_mend_model.specs.declared.Check.TheVariants.{Unchecked}
 use Rattle.tree_mend.specs.Lie.{NodeLies, SlotsLie, StoreLies}
 
 pub few : (m levels len : ℕ) → Shape m levels len → (0 < m) × (m ≤ 8)
@@ -25,7 +25,7 @@ shape-lies m levels ws sh =
     }
 
 module _ (m levels : ℕ) (ws : List ℕ) (s : shape.Shape) (shaped : Shaped m levels s) (t : Bool) (tested : t ≡ shape_ok m levels (length ws)) where
-  pub check-shape : not t ≡ true → Unchecked BadShape ≡ checked m levels ws
+  pub check-shape : not t ≡ true → Err BadShape ≡ checked m levels ws
   unfolding checked
   check-shape p = rw (← tested, not-true t p)
 

@@ -1,10 +1,10 @@
 -- The loops over levels and slots.
+use Rattle.std.specs.Prelude.{None, Ok, Some}
 use Rattle.laws.specs.Prelude.{Bool, List, ◌*◌, ◌+◌, ◌-◌, ◌<◌, ◌∙◌, ◌≡◌, ◌≤◌, add-one, ap, arith, false, length, not-suc-le-zero, pred, refl, subst, suc, sym, true, zero, ℕ}
 use native.Mathlib.Nat.{one-mul}
 use Rattle.tree_model.proofs.Laws.{shape_is, size_room}
 use Rattle.tree_model.specs.Prelude.{Shape, room, shape_ok, size, slot_limit, slot_words}
 use Rattle.tree_mend_model.specs.Check.{broken_at, checked, walk}
-use Rattle.tree_mend_model.specs.declared.Check.TheVariants.{Broken, Whole}
 use Rattle.tree_mend.proofs.Shapes.{few}
 use Rattle.tree_mend.specs.Lie.{StoreLies, WalkIn}
 
@@ -17,7 +17,7 @@ pub record Walked (m levels inner : ℕ) (ws : List ℕ) : Type 0 where
 
 -- what is left of the walk from slot p on answers for the whole
 abbrev pub Rest : ℕ → ℕ → ℕ → List ℕ → ℕ → Type 0
-Rest m levels inner ws p = walk (broken_at m inner ws) p (m * suc inner - p) ≡ checked m levels ws
+Rest m levels inner ws p = Ok (walk (broken_at m inner ws) p (m * suc inner - p)) ≡ checked m levels ws
 
 -- at a level of so many nodes, with `left` levels to go
 pub record AtLevel (m levels inner : ℕ) (ws : List ℕ) (p nodes left : ℕ) : Type 0 where
@@ -34,7 +34,7 @@ pub record AtSlot (m levels inner : ℕ) (ws : List ℕ) (nodes left end p : ℕ
   pub sum : end + size m (left - 1) (nodes * m) ≡ m * suc inner
   pub rest : Rest m levels inner ws p
 
-checked-walk : (m k : ℕ) (ws : List ℕ) → shape_ok m (suc k) (length ws) ≡ true → walk (broken_at m (room m k) ws) 0 (room m (suc k)) ≡ checked m (suc k) ws
+checked-walk : (m k : ℕ) (ws : List ℕ) → shape_ok m (suc k) (length ws) ≡ true → Ok (walk (broken_at m (room m k) ws) 0 (room m (suc k))) ≡ checked m (suc k) ws
 unfolding checked
 checked-walk m k ws e = rw e
 
@@ -48,7 +48,7 @@ begins m k ws ok sh few =
     record {
       walked = record { order = few.0; few = few.1; limit = omega (arith, sh.capacity, room-suc m k); words = omega (arith, sh.slice, room-suc m k) };
       sum = omega (arith, size_room m (suc k) 1, one-mul (room m (suc k)), room-suc m k);
-      rest = ap (walk (broken_at m (room m k) ws) 0) z ∙ checked-walk m k ws ok;
+      rest = ap (λ (n : ℕ). Ok (walk (broken_at m (room m k) ws) 0 n)) z ∙ checked-walk m k ws ok;
     }
 
 pub walk_begins : (m levels inner : ℕ) (ws : List ℕ) → StoreLies m levels inner ws → AtLevel m levels inner ws 0 1 levels
@@ -81,10 +81,6 @@ module _ (m levels inner : ℕ) (ws : List ℕ) where
   slot-in nodes left end p a h =
       record { order = a.walked.order; few = a.walked.few; inside = omega (arith, a.sum); limit = a.walked.limit; words = a.walked.words }
 
-  -- .. and its number fits a word
-  pub slot_small : {nodes left end p q : ℕ} → q ≡ p → AtSlot m levels inner ws nodes left end p → p < end → q < 4294967296
-  slot_small e a h = omega (arith, a.sum, a.walked.limit)
-
   more : (end p : ℕ) (n : ℕ) → p < end → end + n ≡ m * suc inner → m * suc inner - p ≡ suc (m * suc inner - (p + 1))
   more end p n h e = omega arith
 
@@ -102,30 +98,30 @@ module _ (m levels inner : ℕ) (ws : List ℕ) where
         upto = omega arith;
         slots = a.slots;
         sum = a.sum;
-        rest = sym (ap (walk (broken_at m inner ws) p) (more end p _ h a.sum) ∙ one_more (broken_at m inner ws) p _ (sym e ∙ f)) ∙ a.rest;
+        rest = sym (ap Ok (ap (walk (broken_at m inner ws) p) (more end p _ h a.sum) ∙ one_more (broken_at m inner ws) p _ (sym e ∙ f))) ∙ a.rest;
       }
 
-  here : (t : ℕ → Bool) (p n : ℕ) → t p ≡ true → walk t p (suc n) ≡ Broken p
+  here : (t : ℕ → Bool) (p n : ℕ) → t p ≡ true → walk t p (suc n) ≡ Some p
   unfolding walk
   here t p n e = rw e
 
   -- the first broken slot
   pub slot-found : (nodes left end p : ℕ) → AtSlot m levels inner ws nodes left end p → p < end → (r : Bool) → r ≡ broken_at m inner ws p → r ≡ true
-      → Broken p ≡ checked m levels ws
+      → Ok (Some p) ≡ checked m levels ws
   slot-found nodes left end p a h r e f =
-      sym (ap (walk (broken_at m inner ws) p) (more end p _ h a.sum) ∙ here (broken_at m inner ws) p _ (sym e ∙ f)) ∙ a.rest
+      sym (ap Ok (ap (walk (broken_at m inner ws) p) (more end p _ h a.sum) ∙ here (broken_at m inner ws) p _ (sym e ∙ f))) ∙ a.rest
 
-  pub level-ends : (nodes left end p : ℕ) → AtSlot m levels inner ws nodes left end p → end ≤ p → AtLevel m levels inner ws p (nodes * m) (left - 1)
-  level-ends nodes left end p a h =
+  pub level-ends : (nodes left end p left' : ℕ) → AtSlot m levels inner ws nodes left end p → end ≤ p → left' ≡ left - 1 → AtLevel m levels inner ws end (nodes * m) left'
+  level-ends nodes left end p left' a h e =
       let z : p ≡ end = omega (arith, a.upto) in
-      record { walked = a.walked; sum = ap (λ (n : ℕ). n + size m (left - 1) (nodes * m)) z ∙ a.sum; rest = a.rest }
+      record { walked = a.walked; sum = ap (λ (n : ℕ). end + size m n (nodes * m)) e ∙ a.sum; rest = subst (Rest m levels inner ws) z a.rest }
 
-  none : (t : ℕ → Bool) (p n : ℕ) → n ≡ 0 → walk t p n ≡ Whole
+  none : (t : ℕ → Bool) (p n : ℕ) → n ≡ 0 → walk t p n ≡ None
   unfolding walk
   none t p n e = rw e
 
   -- no level is left
-  pub walk_ends : (p nodes left : ℕ) → AtLevel m levels inner ws p nodes left → left ≡ 0 → Whole ≡ checked m levels ws
+  pub walk_ends : (p nodes left : ℕ) → AtLevel m levels inner ws p nodes left → left ≡ 0 → Ok None ≡ checked m levels ws
   unfolding size
-  walk_ends p nodes zero a h = sym (none (broken_at m inner ws) p (m * suc inner - p) (omega (arith, a.sum))) ∙ a.rest
+  walk_ends p nodes zero a h = sym (ap Ok (none (broken_at m inner ws) p (m * suc inner - p) (omega (arith, a.sum)))) ∙ a.rest
   walk_ends p nodes (suc k) a h = absurd (omega arith)

@@ -2,7 +2,7 @@
 // slot q * order, and the node under slot p is node p + 1.
 #![tactic(auto)]
 
-ghost use Rattle.std.specs.Prelude.{◌≡◌, ◌⊎◌, ℕ, suc, ◌*◌, ◌+◌, ◌^◌, ◌≤◌, ◌<◌, length};
+ghost use Rattle.std.specs.Prelude.{Ok, ◌≡◌, ◌⊎◌, ℕ, suc, ◌*◌, ◌+◌, ◌^◌, ◌≤◌, ◌<◌, length};
 ghost use Rattle.promise.specs.Queue.{leaves};
 ghost use Rattle.promise.specs.Served.{hit};
 ghost use Rattle.tree_model.specs.Node.{sum_counts};
@@ -19,7 +19,6 @@ pub mod numbers;
 
 use strip::{Element, Rank, Refusal, goes_down, is_blank, is_untagged, stays};
 use tree::clear;
-use tree_mend_model::{Bare, Check, Mend};
 use tree_model::Slot;
 use tree_node::scan::sum_counts;
 use tree_node::shape::{shape_fits, shape_of};
@@ -45,23 +44,17 @@ fn slot_broken(s: &[u32], order: usize, p: usize, under: bool, above: Rank) -> b
 {
     let a = slot_at(s, p);
     let sum = counts_under(s, order, p, under);
-    let count = a.count as usize;
-    let element = a.element;
-    if count == 0 {
-        let clean = is_blank(element);
-        return !clean | (sum != 0);
+    if a.count == 0 {
+        return !is_blank(a.element) | (sum != 0);
     }
-    let rank = element.rank;
-    (count - 1 != sum) | (rank.0 < above.0)
+    (a.count as usize - 1 != sum) | (a.element.rank.0 < above.0)
 }
 
 fn rank_at(s: &[u32], p: usize) -> Rank
     requires { slot_words * p + slot_words ≤ length s.now }
     ensures { result.0 ≡ (slot_of s.now p).element.rank.0 }
 {
-    let a = slot_at(s, p);
-    let element = a.element;
-    element.rank
+    slot_at(s, p).element.rank
 }
 
 // ---- by loops
@@ -87,40 +80,36 @@ fn broken_at(s: &[u32], order: usize, inner: usize, p: usize) -> bool
 }
 
 // The first broken slot in slice order: the walk over levels and slots is left there at once.
-fn first_broken(s: &[u32], order: usize, levels: usize, inner: usize) -> Check
+fn first_broken(s: &[u32], order: usize, levels: usize, inner: usize) -> Option<u32>
     requires { StoreLies order levels inner s.now }
-    ensures { result ≡ checked order levels s.now }
+    ensures { Ok result ≡ checked order levels s.now }
 {
-    let mut p = 0;
+    let mut found = None;
+    let mut first = 0;
     let mut nodes = 1;
-    let mut left = levels;
-    'walk: while left > 0 {
-        let end = p + nodes * order;
-        while p < end {
+    'walk: for level in 0..levels {
+        let end = first + nodes * order;
+        for p in first..end {
             if broken_at(s, order, inner, p) {
+                found = Some(p as u32);
                 break 'walk;
             }
-            p += 1;
         }
+        first = end;
         nodes *= order;
-        left -= 1;
     }
-    if left == 0 {
-        return Check::Whole;
-    }
-    let slot = p as u32;
-    Check::Broken(slot)
+    found
 }
 
 // Whether no slot is broken, or else the first broken one.
-pub fn check(store: &[u32], order: usize, levels: usize) -> Check
+pub fn check(store: &[u32], order: usize, levels: usize) -> Result<Option<u32>, Refusal>
     ensures { result ≡ checked order levels store.now }
 {
     let shape = shape_of(order, levels);
     if !shape_fits(shape, store.len()) {
-        return Check::Unchecked(Refusal::BadShape);
+        return Err(Refusal::BadShape);
     }
-    first_broken(store, order, levels, shape.room)
+    Ok(first_broken(store, order, levels, shape.room))
 }
 
 // ---- by descent: the check of a node calls the check of its slots, and each slot that of the node under it, with the levels left falling
@@ -133,13 +122,11 @@ fn node_whole(s: &[u32], order: usize, left: usize, node: usize, above: Rank) ->
     if left == 0 {
         return true;
     }
-    let mut p = node * order;
-    let end = p + order;
-    while p < end {
+    let first = node * order;
+    for p in first..first + order {
         if !slot_whole(s, order, left - 1, p, above) {
             return false;
         }
-        p += 1;
     }
     true
 }
@@ -157,17 +144,14 @@ fn slot_whole(s: &[u32], order: usize, left: usize, p: usize, above: Rank) -> bo
 }
 
 // Whether no slot is broken.
-pub fn is_whole(store: &[u32], order: usize, levels: usize) -> Bare
+pub fn is_whole(store: &[u32], order: usize, levels: usize) -> Result<bool, Refusal>
     ensures { result ≡ descended order levels store.now }
 {
     let shape = shape_of(order, levels);
     if !shape_fits(shape, store.len()) {
-        return Bare::Unasked(Refusal::BadShape);
+        return Err(Refusal::BadShape);
     }
-    if node_whole(store, order, levels, 0, Rank(0)) {
-        return Bare::Yes;
-    }
-    Bare::No
+    Ok(node_whole(store, order, levels, 0, Rank(0)))
 }
 
 // ---- the mender
@@ -177,13 +161,7 @@ fn power_of(order: usize) -> usize
     requires { (order ≡ 2) ⊎ (order ≡ 4) ⊎ (order ≡ 8) }
     ensures { (order ≡ 2 ^ result) × (result < 64) }
 {
-    if order == 2 {
-        return 1;
-    }
-    if order == 4 {
-        return 2;
-    }
-    3
+    order.trailing_zeros() as usize
 }
 
 // A tree that is only pushed into fills evenly, so that its counts need not be read: push n, from 0, takes place n mod M of a node, and goes
@@ -195,11 +173,11 @@ fn settle(to: &mut [u32], order: usize, power: usize, n: usize, x: Element)
     let mut down = x;
     let mut left = n;
     let mut first = 0;
+    // not a counter: `left` falls by the power at each level
     while order <= left {
         let next = left >> power;
         let p = first + (left - next * order);
-        let a = slot_at(to, p);
-        let y = a.element;
+        let y = slot_at(to, p).element;
         let up = stays(down, y);
         let count = (next + 1) as u32;
         let kept = Slot { element: up, count };
@@ -233,19 +211,16 @@ fn mend_slot(to: &mut [u32], order: usize, power: usize, t: Tally, a: Slot) -> T
     if a.count == 0 {
         return t;
     }
-    let pushed = t.pushed;
-    let skipped = t.skipped;
-    let x = a.element;
-    if is_untagged(x) {
+    if is_untagged(a.element) {
         return Tally {
-            pushed,
-            skipped: skipped + 1,
+            skipped: t.skipped + 1,
+            ..t
         };
     }
-    settle(to, order, power, pushed, x);
+    settle(to, order, power, t.pushed, a.element);
     Tally {
-        pushed: pushed + 1,
-        skipped,
+        pushed: t.pushed + 1,
+        ..t
     }
 }
 
@@ -260,29 +235,25 @@ fn mend_slots(from: &[u32], to: &mut [u32], order: usize, slots: usize) -> usize
         pushed: 0,
         skipped: 0,
     };
-    let mut i = 0;
-    while i < slots {
-        let a = slot_at(from, i);
-        t = mend_slot(to, order, power, t, a);
-        i += 1;
+    for i in 0..slots {
+        t = mend_slot(to, order, power, t, slot_at(from, i));
     }
     t.skipped
 }
 
 // Clears the second store and pushes into it, in slice order, every slot of the first with a count not 0; those with tag 0 are skipped and
 // counted. The first is left alone.
-pub fn mend(from: &[u32], to: &mut [u32], order: usize, levels: usize) -> Mend
+pub fn mend(from: &[u32], to: &mut [u32], order: usize, levels: usize) -> Result<u32, Refusal>
     ensures { mended_as result to.new ≡ mended order levels from.now to.old }
 {
     let shape = shape_of(order, levels);
     if !shape_fits(shape, from.len()) {
-        return Mend::Unmended(Refusal::BadShape);
+        return Err(Refusal::BadShape);
     }
     if !shape_fits(shape, to.len()) {
-        return Mend::Unmended(Refusal::BadShape);
+        return Err(Refusal::BadShape);
     }
-    clear(to, order, levels);
+    let _ = clear(to, order, levels);
     let skipped = mend_slots(from, to, order, shape.slots);
-    let number = skipped as u32;
-    Mend::Skipped(number)
+    Ok(skipped as u32)
 }

@@ -1,79 +1,71 @@
 // 01's numbers of what the check and the mender answer.
-ghost use Rattle.std.specs.Prelude.{◌≡◌};
+ghost use Rattle.std.specs.Prelude.{◌≡◌, MatchResult};
+ghost use Rattle.strip.specs.Answers.{refusal_number};
 ghost use Rattle.tree_mend_model.specs.Check.{check_number, check_yes, check_slot, bare_number, bare_yes};
 ghost use Rattle.tree_mend_model.specs.Mend.{mend_number, mend_skipped};
 
-use strip::refusal_number;
-use tree_mend_model::{Bare, Check, Mend};
+use strip::Refusal;
 
 // The refusal's number, and 0 where nothing is refused.
-pub fn check_number(c: Check) -> u32
-    ensures { result ≡ check_number c }
+fn number<T: Copy>(answer: Result<T, Refusal>) -> u32
+    ensures { MatchResult answer (λ _. result ≡ 0) (λ r. result ≡ refusal_number r) }
 {
-    match c {
-        Check::Whole => 0,
-        Check::Broken(_) => 0,
-        Check::Unchecked(r) => refusal_number(r),
+    match answer {
+        Ok(_) => 0,
+        Err(why) => u32::from(why),
     }
 }
 
+pub fn check_number(c: Result<Option<u32>, Refusal>) -> u32
+    ensures { result ≡ check_number c }
+{
+    number(c)
+}
+
 // 1 for yes.
-pub fn check_yes(c: Check) -> u32
+pub fn check_yes(c: Result<Option<u32>, Refusal>) -> u32
     ensures { result ≡ check_yes c }
 {
     match c {
-        Check::Whole => 1,
-        Check::Broken(_) => 0,
-        Check::Unchecked(_) => 0,
+        Ok(None) => 1,
+        _ => 0,
     }
 }
 
 // The slot that is named.
-pub fn check_slot(c: Check) -> u32
+pub fn check_slot(c: Result<Option<u32>, Refusal>) -> u32
     ensures { result ≡ check_slot c }
 {
     match c {
-        Check::Whole => 0,
-        Check::Broken(p) => p,
-        Check::Unchecked(_) => 0,
+        Ok(Some(p)) => p,
+        _ => 0,
     }
 }
 
-pub fn bare_number(b: Bare) -> u32
+pub fn bare_number(b: Result<bool, Refusal>) -> u32
     ensures { result ≡ bare_number b }
 {
-    match b {
-        Bare::Yes => 0,
-        Bare::No => 0,
-        Bare::Unasked(r) => refusal_number(r),
-    }
+    number(b)
 }
 
-pub fn bare_yes(b: Bare) -> u32
+pub fn bare_yes(b: Result<bool, Refusal>) -> u32
     ensures { result ≡ bare_yes b }
 {
     match b {
-        Bare::Yes => 1,
-        Bare::No => 0,
-        Bare::Unasked(_) => 0,
+        Ok(true) => 1,
+        _ => 0,
     }
 }
 
-pub fn mend_number(a: Mend) -> u32
+pub fn mend_number(a: Result<u32, Refusal>) -> u32
     ensures { result ≡ mend_number a }
 {
-    match a {
-        Mend::Skipped(_) => 0,
-        Mend::Unmended(r) => refusal_number(r),
-    }
+    number(a)
 }
 
 // How many were skipped.
-pub fn mend_skipped(a: Mend) -> u32
+pub fn mend_skipped(a: Result<u32, Refusal>) -> u32
     ensures { result ≡ mend_skipped a }
 {
-    match a {
-        Mend::Skipped(n) => n,
-        Mend::Unmended(_) => 0,
-    }
+    a.unwrap_or(0)
 }

@@ -1,12 +1,11 @@
 -- The check by descent answers as the walk.
-use Rattle.laws.specs.Prelude.{BadShape, Bool, List, ◌&&◌, ◌*◌, ◌+◌, ◌/◌, ◌<◌, ◌∙◌, ◌≡◌, ◌≤◌, and_left, and_right, and-true, ap, arith, cond, eq-or-lt_of_le, false, le-ltb, length, lt-ltb, ltb, ltb-false, ltb-true, mul-le-mul_right, not, not-suc-le-zero, not-true, refl, subst, suc, suc-add, suc-mul, sym, true, zero, ℕ, ⊎_elim}
+use Rattle.std.specs.Prelude.{Err, Ok, Result, Some}
+use Rattle.laws.specs.Prelude.{BadShape, Bool, List, Refusal, ◌&&◌, ◌*◌, ◌+◌, ◌/◌, ◌<◌, ◌∙◌, ◌≡◌, ◌≤◌, and_left, and_right, and-true, ap, arith, cond, eq-or-lt_of_le, false, le-ltb, length, lt-ltb, ltb, ltb-false, ltb-true, mul-le-mul_right, not, not-suc-le-zero, not-true, refl, subst, suc, suc-add, suc-mul, sym, true, zero, ℕ, ⊎_elim}
 use native.Mathlib.Nat.{mul_comm, lt_of_not-le, div-eq_of_lt-le, div-mul-le_self, lt-div-mul-add}
 use Rattle.tree_model.specs.declared.Slot.{Slot}
 use Rattle.tree_model.specs.Prelude.{Shape, room, shape_ok, slot_of}
 use Rattle.tree_model.proofs.Laws.{order-pos, shape_is}
 use Rattle.tree_mend_model.specs.Check.{walk, broken, broken_at, checked, each, under_at, under_of, rank_above, node_whole, slot_whole, descended, bare_of}
-use Rattle.tree_mend_model.specs.declared.Check.TheVariants.{Broken, Unchecked}
-use Rattle.tree_mend_model.specs.declared.Bare.TheVariants.{Yes, No, Unasked}
 use Rattle.tree_mend_model.specs.Promise.{broken_slot, NoneBroken}
 
 le_of_not_lt : (a b : ℕ) → (b < a → ⊥) → a ≤ b
@@ -163,13 +162,13 @@ same_truth true b f g = sym (f refl)
 same_truth false true f g = g refl
 same_truth false false f g = refl
 
-walk-bare : (t : ℕ → Bool) (p n : ℕ) → bare_of (walk t p n) ≡ cond (each (λ i. not (t i)) p n) Yes No
+walk-bare : (t : ℕ → Bool) (p n : ℕ) → bare_of (Ok (walk t p n)) ≡ Ok (each (λ i. not (t i)) p n)
 unfolding walk each
 walk-bare t p zero = refl
 walk-bare t p (suc n) = go (t p) (walk-bare t (suc p) n)
   where
-    go : (b : Bool) → bare_of (walk t (suc p) n) ≡ cond (each (λ i. not (t i)) (suc p) n) Yes No
-        → bare_of (cond b (Broken p) (walk t (suc p) n)) ≡ cond (not b && each (λ i. not (t i)) (suc p) n) Yes No
+    go : (b : Bool) → bare_of (Ok (walk t (suc p) n)) ≡ Ok (each (λ i. not (t i)) (suc p) n)
+        → bare_of (Ok (cond b (Some p) (walk t (suc p) n))) ≡ Ok (not b && each (λ i. not (t i)) (suc p) n)
     go true ih = refl
     go false ih = ih
 
@@ -184,11 +183,11 @@ pub descent-is : (m levels : ℕ) (ws : List ℕ) → descended m levels ws ≡ 
 unfolding descended checked
 descent-is m levels ws = go (shape_ok m levels (length ws)) refl
   where
-    at : (levels : ℕ) → Shape m levels (length ws) → cond (node_whole m levels ws 0 0) Yes No ≡ bare_of (walk (broken_slot m levels ws) 0 (room m levels))
+    at : (levels : ℕ) → Shape m levels (length ws) → ◌≡◌ {A = Result Bool Refusal} (Ok (node_whole m levels ws 0 0)) (bare_of (Ok (walk (broken_slot m levels ws) 0 (room m levels))))
     at zero sh = absurd (not-suc-le-zero sh.some)
-    at (suc l) sh = ap (λ (b : Bool). cond b Yes No) (descent-walk m l ws (order-pos sh)) ∙ sym (walk-bare (broken_slot m (suc l) ws) 0 (room m (suc l)))
+    at (suc l) sh = ap Ok (descent-walk m l ws (order-pos sh)) ∙ sym (walk-bare (broken_slot m (suc l) ws) 0 (room m (suc l)))
 
     go : (b : Bool) → shape_ok m levels (length ws) ≡ b
-        → cond b (cond (node_whole m levels ws 0 0) Yes No) (Unasked BadShape) ≡ bare_of (cond b (walk (broken_slot m levels ws) 0 (room m levels)) (Unchecked BadShape))
+        → cond b (Ok (node_whole m levels ws 0 0)) (Err BadShape) ≡ bare_of (cond b (Ok (walk (broken_slot m levels ws) 0 (room m levels))) (Err BadShape))
     go true s = at levels (shape_is m levels (length ws) s)
     go false s = refl

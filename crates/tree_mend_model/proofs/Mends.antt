@@ -1,5 +1,6 @@
 -- The mender: no push of it is refused, what it writes passes the check, and holds exactly the elements of the first store's slots, less the skipped.
-use Rattle.laws.specs.Prelude.{All, Answer, BadShape, Bool, Done, Element, List, Push, Request, [], ◌&&◌, ◌*◌, ◌+◌, ◌<◌, ◌∙◌, ◌∷◌, ◌≡◌, ◌≤◌, add-suc, and_right, ap, ap₂, arith, cond, eqb, false, get_or, length, lt-ltb, ne_eqb, not, not-suc-le-zero, not-true, refl, suc, suc-add, sum_to, sym, to-add, to-ext, true, untagged, zero, ℕ}
+use Rattle.std.specs.Prelude.{Err, None, Ok}
+use Rattle.laws.specs.Prelude.{All, Answer, BadShape, Bool, Element, List, Push, Request, [], ◌&&◌, ◌*◌, ◌+◌, ◌<◌, ◌∙◌, ◌∷◌, ◌≡◌, ◌≤◌, add-suc, and_right, ap, ap₂, arith, cond, eqb, false, get_or, length, lt-ltb, ne_eqb, not, not-suc-le-zero, not-true, refl, suc, suc-add, sum_to, sym, to-add, to-ext, true, untagged, zero, ℕ, Ok, None}
 use Rattle.promise.proofs.Kept.{let-in}
 use Rattle.promise.specs.Prelude.{always, answers, brought, hit, leaves}
 use Rattle.tree_model.proofs.Laws.{Kept, call-sum, called-kept, clear-zeroes, is-queue, is-shape, kept-sum, past-stands, shape_is, start-empty, start-kept, stored-holding, tagged}
@@ -8,13 +9,11 @@ use Rattle.tree_model.specs.declared.Slot.{Slot}
 use Rattle.tree_mend_model.specs.Check.{checked}
 use Rattle.tree_mend_model.specs.Mend.{keeps, Mended, mended, mended_as, pushes, skipped, skips}
 use Rattle.tree_mend_model.specs.Promise.{without_tag, with_tag}
-use Rattle.tree_mend_model.specs.declared.Check.TheVariants.{Whole}
-use Rattle.tree_mend_model.specs.declared.Mend.TheVariants.{Skipped, Unmended}
 use Rattle.tree_mend_model.proofs.Passes.{reached-passes}
 
 -- ---- a push of an element with a tag, into a store with room
 module _ (m k : ℕ) (x : Element) (t : untagged x ≡ false) (ws : List ℕ) (kept : Kept m k ws) (h : stored_count (room m (suc k)) ws always < room m (suc k)) where
-  pub push-taken : (called m (suc k) (Push x) ws).answer ≡ Done
+  pub push-taken : (called m (suc k) (Push x) ws).answer ≡ Ok None
   unfolding called
   push-taken =
       ap (λ (o : Outcome). o.answer) (let-in (is-queue m k) (Push x) ws kept tt
@@ -55,7 +54,7 @@ has-tag s e = not-true (untagged s.element) (and_right (not (is_empty s)) (not (
 
 -- a list of requests of which each is answered done, and which adds so many
 pub record Adds (m k : ℕ) (rs : List Request) (to : List ℕ) (add : (Element → Bool) → ℕ) : Type 0 where
-  pub done : All (λ a. a ≡ Done) (answers (tree_queue m (suc k)) rs to)
+  pub done : All (λ a. a ≡ Ok None) (answers (tree_queue m (suc k)) rs to)
   pub sum : (f : Element → Bool) → stored_count (room m (suc k)) (leaves (tree_queue m (suc k)) rs to) f ≡ stored_count (room m (suc k)) to f + add f
 
 adds-push : (m k : ℕ) (x : Element) (rs : List Request) (to : List ℕ) (add : (Element → Bool) → ℕ) → untagged x ≡ false → Kept m k to
@@ -96,17 +95,17 @@ module _ (m : ℕ) (ws to : List ℕ) where
   adds k sh = pushes-add m k ws (room m (suc k)) 0 (start m (suc k) to) (start-kept m k to sh) (omega (arith, start-empty m k to sh always))
 
   -- NOT REFUSED: every push of the mender is done
-  pub pushes-done : (levels : ℕ) → Shape m levels (length to) → All (λ a. a ≡ Done) (answers (tree_queue m levels) (all levels) (start m levels to))
+  pub pushes-done : (levels : ℕ) → Shape m levels (length to) → All (λ a. a ≡ Ok None) (answers (tree_queue m levels) (all levels) (start m levels to))
   pushes-done zero sh = absurd (not-suc-le-zero sh.some)
   pushes-done (suc k) sh = (adds k sh).done
 
   module _ (levels : ℕ) (one : Shape m levels (length ws)) (two : Shape m levels (length to)) where
-    pub mended-is : mended m levels ws to ≡ mended_as (Skipped (skipped ws 0 (room m levels))) (after m levels (all levels) to)
+    pub mended-is : mended m levels ws to ≡ mended_as (Ok (skipped ws 0 (room m levels))) (after m levels (all levels) to)
     unfolding mended
     mended-is = rw (is-shape m levels (length ws) one, is-shape m levels (length to) two)
 
     -- PASSES: what it writes passes the check, always
-    pub mended-passes : checked m levels (mended m levels ws to).words ≡ Whole
+    pub mended-passes : checked m levels (mended m levels ws to).words ≡ Ok None
     mended-passes = ap (λ (o : Mended). checked m levels o.words) mended-is ∙ reached-passes m levels to (all levels) two
 
   taken-stored : (n : ℕ) (f : Element → Bool) → taken_from ws 0 n f ≡ stored_count n ws (with_tag f)
@@ -209,7 +208,7 @@ mended-past m levels ws to p h = go (shape_ok m levels (length ws) && shape_ok m
     done = after m levels (pushes ws 0 (room m levels)) to
 
     go : (b : Bool) → (shape_ok m levels (length ws) && shape_ok m levels (length to)) ≡ b
-        → get_or (cond b (mended_as (Skipped (skipped ws 0 (room m levels))) done) (mended_as (Unmended BadShape) to)).words p 0 ≡ get_or to p 0
+        → get_or (cond b (mended_as (Ok (skipped ws 0 (room m levels))) done) (mended_as (Err BadShape) to)).words p 0 ≡ get_or to p 0
     go true e =
         let two : Shape m levels (length to) = shape_is m levels (length to) (and_right (shape_ok m levels (length ws)) (shape_ok m levels (length to)) e) in
         leaves-past m levels (pushes ws 0 (room m levels)) (start m levels to) p h ∙ (clear-zeroes m levels to two).1.rest p 0 h

@@ -1,4 +1,5 @@
 -- "of a longer one the rest is never touched": not read either. Two stores that agree on the words of the shape are checked and mended the same.
+use Rattle.std.specs.Prelude.{Err, Ok, Option, Some}
 use Rattle.laws.specs.Prelude.{BadShape, Bool, List, Push, Request, [], ◌*◌, ◌+◌, ◌/◌, ◌<◌, ◌∷◌, ◌≡◌, ◌≤◌, ap, ap₂, arith, cond, false, length, ltb, ltb-true, mul-le-mul_right, not-suc-le-zero, pred, refl, suc, suc-mul, true, zero, ℕ}
 use native.Mathlib.Nat.{div-le_self, mul_comm}
 use Rattle.promise.specs.Prelude.{hit}
@@ -7,15 +8,12 @@ use Rattle.tree_model.specs.Prelude.{Agree, Shape, after, node_of, room, shape_o
 use Rattle.tree_model.specs.declared.Slot.{Slot}
 use Rattle.tree_mend_model.specs.Check.{broken_at, checked, rank_above, under_at, walk}
 use Rattle.tree_mend_model.specs.Mend.{keeps, mended, mended_as, pushes, skipped, skips}
-use Rattle.tree_mend_model.specs.declared.Check.{Check}
-use Rattle.tree_mend_model.specs.declared.Check.TheVariants.{Broken}
-use Rattle.tree_mend_model.specs.declared.Mend.TheVariants.{Skipped, Unmended}
 
 walk-ext : (t u : ℕ → Bool) (p n : ℕ) → ((i : ℕ) → i < p + n → t i ≡ u i) → walk t p n ≡ walk u p n
 unfolding walk
 walk-ext t u p zero h = refl
 walk-ext t u p (suc n) h =
-    ap₂ (λ (b : Bool) (c : Check). cond b (Broken p) c) (h p (omega arith)) (walk-ext t u (suc p) n (λ i l. h i (omega arith)))
+    ap₂ (λ (b : Bool) (c : Option ℕ). cond b (Some p) c) (h p (omega arith)) (walk-ext t u (suc p) n (λ i l. h i (omega arith)))
 
 module _ (m levels : ℕ) (ws vs : List ℕ) (one : Shape m levels (length ws)) (two : Shape m levels (length vs)) (same : Agree (room m levels) ws vs) where
   slot_same : (i : ℕ) → i < room m levels → slot_of ws i ≡ slot_of vs i
@@ -48,7 +46,7 @@ module _ (m levels : ℕ) (ws vs : List ℕ) (one : Shape m levels (length ws)) 
   pub unread-check : checked m levels ws ≡ checked m levels vs
   unfolding checked
   unread-check =
-      rw (is-shape m levels (length ws) one, is-shape m levels (length vs) two) (walk-ext _ _ 0 (room m levels) (λ i l. broken-same i (omega arith)))
+      rw (is-shape m levels (length ws) one, is-shape m levels (length vs) two) (ap Ok (walk-ext _ _ 0 (room m levels) (λ i l. broken-same i (omega arith))))
 
   pushes_same : (n i : ℕ) → i + n ≤ room m levels → pushes ws i n ≡ pushes vs i n
   unfolding pushes
@@ -65,4 +63,4 @@ module _ (m levels : ℕ) (ws vs : List ℕ) (one : Shape m levels (length ws)) 
   unfolding mended
   unread-mend to =
       rw (is-shape m levels (length ws) one, is-shape m levels (length vs) two)
-      (ap₂ (λ (n : ℕ) (rs : List Request). cond (shape_ok m levels (length to)) (mended_as (Skipped n) (after m levels rs to)) (mended_as (Unmended BadShape) to)) (skipped-same (room m levels) 0 (omega arith)) (pushes_same (room m levels) 0 (omega arith)))
+      (ap₂ (λ (n : ℕ) (rs : List Request). cond (shape_ok m levels (length to)) (mended_as (Ok n) (after m levels rs to)) (mended_as (Err BadShape) to)) (skipped-same (room m levels) 0 (omega arith)) (pushes_same (room m levels) 0 (omega arith)))

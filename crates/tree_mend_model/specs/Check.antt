@@ -1,14 +1,10 @@
 -- When a slot of a tree's store is broken (02 [11]), the first broken slot in slice order, and the same yes or no by descent.
 -- Slots and nodes go by their numbers in the slice, from 0: node q begins with slot q * m, and the node under slot p is node suc p. That this is "Slot j of
 -- node n has below it node n_m+j of the next level" is shown in proofs/Places.antt.
-use Rattle.std.specs.Prelude.{◌&&◌, ◌*◌, ◌/◌, ◌||◌}
-use Rattle.laws.specs.Prelude.{BadShape, Bool, List, [], cond, eqb, length, ltb, not, pred, refusal_number, suc, true, zero, ℕ}
+use Rattle.std.specs.Prelude.{◌&&◌, ◌*◌, ◌/◌, ◌||◌, Err, None, Ok, Option, Result, Some}
+use Rattle.laws.specs.Prelude.{BadShape, Bool, List, Refusal, [], cond, eqb, false, length, ltb, not, pred, refusal_number, suc, true, zero, ℕ}
 use Rattle.tree_model.specs.declared.Slot.{Slot}
 use Rattle.tree_model.specs.Prelude.{every, is_blank, is_empty, node_of, room, shape_ok, slot_of, sum_counts}
-use Rattle.tree_mend_model.specs.declared.Check.{Check}
-use Rattle.tree_mend_model.specs.declared.Check.TheVariants.{Whole, Broken, Unchecked}
-use Rattle.tree_mend_model.specs.declared.Bare.{Bare}
-use Rattle.tree_mend_model.specs.declared.Bare.TheVariants.{Yes, No, Unasked}
 
 -- ---- one slot
 -- "A slot with a count not 0 is broken if that count isn't one plus the counts of the node under it, or if its rank is below that of the slot above it; a
@@ -38,13 +34,13 @@ inner_of m levels = room m (pred levels)
 
 -- ---- the walk
 -- the first of slot p and the n - 1 after it that passes the test
-unfoldable pub walk : (ℕ → Bool) → ℕ → ℕ → Check
-walk t p zero = Whole
-walk t p (suc n) = cond (t p) (Broken p) (walk t (suc p) n)
+unfoldable pub walk : (ℕ → Bool) → ℕ → ℕ → Option ℕ
+walk t p zero = None
+walk t p (suc n) = cond (t p) (Some p) (walk t (suc p) n)
 
--- "A checker says yes exactly if no slot of the tree store is broken. .. Else it names the first broken slot in slice order"
-unfoldable pub checked : ℕ → ℕ → List ℕ → Check
-checked m levels ws = cond (shape_ok m levels (length ws)) (walk (broken_at m (inner_of m levels) ws) 0 (room m levels)) (Unchecked BadShape)
+-- "A checker says yes exactly if no slot of the tree store is broken. .. Else it names the first broken slot in slice order": none for yes, or the slot's number; or a refusal
+unfoldable pub checked : ℕ → ℕ → List ℕ → Result (Option ℕ) Refusal
+checked m levels ws = cond (shape_ok m levels (length ws)) (Ok (walk (broken_at m (inner_of m levels) ws) 0 (room m levels))) (Err BadShape)
 
 -- ---- the descent
 -- the slots under slot p, with k levels below it
@@ -71,37 +67,35 @@ abbrev pub slot_whole : ℕ → ℕ → List ℕ → ℕ → ℕ → Bool
 slot_whole m k ws r p = slot_by (node_whole m k ws) m k ws r p
 
 -- "The bare yes or no also comes by descent"
-unfoldable pub descended : ℕ → ℕ → List ℕ → Bare
-descended m levels ws = cond (shape_ok m levels (length ws)) (cond (node_whole m levels ws 0 0) Yes No) (Unasked BadShape)
+unfoldable pub descended : ℕ → ℕ → List ℕ → Result Bool Refusal
+descended m levels ws = cond (shape_ok m levels (length ws)) (Ok (node_whole m levels ws 0 0)) (Err BadShape)
 
 -- the bare yes or no of a check
-abbrev pub bare_of : Check → Bare
-bare_of Whole = Yes
-bare_of (Broken p) = No
-bare_of (Unchecked r) = Unasked r
+abbrev pub bare_of : Result (Option ℕ) Refusal → Result Bool Refusal
+bare_of (Ok None) = Ok true
+bare_of (Ok (Some p)) = Ok false
+bare_of (Err r) = Err r
 
 -- ---- 01's numbers: the refusal's, 0 where nothing is refused; 1 for yes; and the slot that is named, 0 where there is none
-abbrev pub check_number : Check → ℕ
-check_number Whole = 0
-check_number (Broken p) = 0
-check_number (Unchecked r) = refusal_number r
+abbrev pub check_number : Result (Option ℕ) Refusal → ℕ
+check_number (Ok p) = 0
+check_number (Err r) = refusal_number r
 
-abbrev pub check_yes : Check → ℕ
-check_yes Whole = 1
-check_yes (Broken p) = 0
-check_yes (Unchecked r) = 0
+abbrev pub check_yes : Result (Option ℕ) Refusal → ℕ
+check_yes (Ok None) = 1
+check_yes (Ok (Some p)) = 0
+check_yes (Err r) = 0
 
-abbrev pub check_slot : Check → ℕ
-check_slot Whole = 0
-check_slot (Broken p) = p
-check_slot (Unchecked r) = 0
+abbrev pub check_slot : Result (Option ℕ) Refusal → ℕ
+check_slot (Ok None) = 0
+check_slot (Ok (Some p)) = p
+check_slot (Err r) = 0
 
-abbrev pub bare_number : Bare → ℕ
-bare_number Yes = 0
-bare_number No = 0
-bare_number (Unasked r) = refusal_number r
+abbrev pub bare_number : Result Bool Refusal → ℕ
+bare_number (Ok b) = 0
+bare_number (Err r) = refusal_number r
 
-abbrev pub bare_yes : Bare → ℕ
-bare_yes Yes = 1
-bare_yes No = 0
-bare_yes (Unasked r) = 0
+abbrev pub bare_yes : Result Bool Refusal → ℕ
+bare_yes (Ok true) = 1
+bare_yes (Ok false) = 0
+bare_yes (Err r) = 0

@@ -1,11 +1,9 @@
 -- What the mender leaves and answers (02 [11]): it is a list of pushes on a cleared store.
-use Rattle.std.specs.Prelude.{◌&&◌, ◌+◌, ◌∷◌}
-use Rattle.laws.specs.Prelude.{BadShape, Bool, List, Push, Request, [], cond, length, not, refusal_number, suc, untagged, zero, ℕ}
+use Rattle.std.specs.Prelude.{◌&&◌, ◌+◌, ◌∷◌, Err, Ok, Result}
+use Rattle.laws.specs.Prelude.{BadShape, Bool, List, Push, Refusal, Request, [], cond, length, not, refusal_number, suc, untagged, zero, ℕ}
 use Rattle.promise.specs.Prelude.{hit}
 use Rattle.tree_model.specs.declared.Slot.{Slot}
 use Rattle.tree_model.specs.Prelude.{after, called, is_empty, room, shape_ok, slot_of}
-use Rattle.tree_mend_model.specs.declared.Mend.{Mend}
-use Rattle.tree_mend_model.specs.declared.Mend.TheVariants.{Skipped, Unmended}
 
 -- "every slot with a count not 0", but "A slot with tag 0 is skipped"
 unfoldable pub keeps : Slot → Bool
@@ -29,11 +27,12 @@ skipped ws i (suc n) = hit (skips (slot_of ws i)) + skipped ws (suc i) n
 unfoldable pub mend_slot : ℕ → ℕ → Slot → List ℕ → List ℕ
 mend_slot m levels s to = cond (keeps s) (called m levels (Push s.element) to).words to
 
+-- the answer, how many were skipped or a refusal, and the second store's words afterwards
 pub record Mended : Type 0 where
-  pub answer : Mend
+  pub answer : Result ℕ Refusal
   pub words : List ℕ
 
-abbrev pub mended_as : Mend → List ℕ → Mended
+abbrev pub mended_as : Result ℕ Refusal → List ℕ → Mended
 mended_as a ws = record { answer = a; words = ws }
 
 -- "The mender clears a second store of equal shape and pushes into it, in slice order, every slot with a count not 0; the first is left alone. .. Refusal 1
@@ -41,14 +40,14 @@ mended_as a ws = record { answer = a; words = ws }
 unfoldable pub mended : ℕ → ℕ → List ℕ → List ℕ → Mended
 mended m levels ws to =
     cond (shape_ok m levels (length ws) && shape_ok m levels (length to))
-    (mended_as (Skipped (skipped ws 0 (room m levels))) (after m levels (pushes ws 0 (room m levels)) to))
-    (mended_as (Unmended BadShape) to)
+    (mended_as (Ok (skipped ws 0 (room m levels))) (after m levels (pushes ws 0 (room m levels)) to))
+    (mended_as (Err BadShape) to)
 
 -- ---- 01's numbers: the refusal's, 0 where nothing is refused; and how many were skipped, 0 where it is refused
-abbrev pub mend_number : Mend → ℕ
-mend_number (Skipped n) = 0
-mend_number (Unmended r) = refusal_number r
+abbrev pub mend_number : Result ℕ Refusal → ℕ
+mend_number (Ok n) = 0
+mend_number (Err r) = refusal_number r
 
-abbrev pub mend_skipped : Mend → ℕ
-mend_skipped (Skipped n) = n
-mend_skipped (Unmended r) = 0
+abbrev pub mend_skipped : Result ℕ Refusal → ℕ
+mend_skipped (Ok n) = n
+mend_skipped (Err r) = 0

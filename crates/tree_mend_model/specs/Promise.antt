@@ -1,11 +1,10 @@
 -- What is promised of the check and the mender is said in these words: 02's sentence as a fact, slots by level, node and place, and what passes on.
-use Rattle.std.specs.Prelude.{◌%◌, ◌&&◌, ◌*◌, ◌+◌, ◌/◌, ◌<◌, ◌^◌, ◌∷◌, ◌≡◌, ◌⊎◌}
+use Rattle.std.specs.Prelude.{◌%◌, ◌&&◌, ◌*◌, ◌+◌, ◌/◌, ◌<◌, ◌^◌, ◌∷◌, ◌≡◌, ◌⊎◌, None, Ok}
 use Rattle.laws.specs.Prelude.{All, Answer, Any, BadShape, Bool, Element, Iff, Ladder, List, Push, Refusal, Replace, Request, Zeros, [], count_number, count_of, false, fine, get_or, length, map, not, number_of, rung, suc, sum_to, true, untagged, zero, ℕ}
 use Rattle.promise.specs.Prelude.{Least, Tagged, Untagged, all_brought, all_given, always, answers, leaves}
 use Rattle.tree_model.specs.Prelude.{Damage, Levels, PopThenPush, Shape, Sound, called, four_words, held_count, level_at, levels_of, room, slot_at, stored_count, sum_counts, tree_of, tree_queue}
 use Rattle.tree_model.specs.declared.Slot.{Slot}
 use Rattle.tree_mend_model.specs.Check.{broken_at, checked, inner_of}
-use Rattle.tree_mend_model.specs.declared.Check.TheVariants.{Whole}
 
 -- ---- 02's sentence, part by part
 -- "A slot with a count not 0 is broken if that count isn't one plus the counts of the node under it, or if its rank is below that of the slot above it; a
@@ -73,7 +72,7 @@ module _ (m levels : ℕ) (ws : List ℕ) (rs : List Request) where
   said_from = answers (tree_queue m levels) rs ws
 
   pub record Onward : Type 0 where
-    pub passes : checked m levels then ≡ Whole
+    pub passes : checked m levels then ≡ Ok None
     pub sound : Sound m levels (tree_of m levels (levels_of m levels then 0 1) 0)
     pub undamaged : (r : Request) → Damage m levels r then → ⊥
     pub numbers : (r : Request) → let n = number_of (called m levels r then).answer in (n ≡ 0) ⊎ (n ≡ 5) ⊎ (n ≡ 6) ⊎ (n ≡ 7)

@@ -1,6 +1,6 @@
 -- 01's worked case 9, at the limits of 02 [7]: "case 9's refused 7, 12 and 5 levels become 9, 16 and 6". The words are any that are long enough, so that
 -- the capacity decides.
-use Rattle.laws.specs.Prelude.{BadShape, Bool, Done, List, Refused, ◌<◌, ◌≡◌, arith, cond, false, inl, inr, length, number_of, refl, true, ℕ, ⊎_elim}
+use Rattle.laws.specs.Prelude.{BadShape, Bool, List, ◌<◌, ◌≡◌, arith, cond, false, inl, inr, length, number_of, refl, true, ℕ, ⊎_elim, Ok, None, Err}
 use Rattle.tree_model.proofs.Exactly.{is-shape, shape_is}
 use Rattle.tree_model.specs.Prelude.{Edge, Shape, cleared, outcome, room, shape_ok, slot_limit, wipe}
 
@@ -13,7 +13,7 @@ refused : (m levels : ℕ) (ws : List ℕ) → (Shape m levels (length ws) → �
 unfolding cleared
 refused m levels ws bad = go (shape_ok m levels (length ws)) refl
   where
-    go : (b : Bool) → shape_ok m levels (length ws) ≡ b → number_of (cond b (outcome Done (wipe (room m levels) ws)) (outcome (Refused BadShape) ws)).answer ≡ 1
+    go : (b : Bool) → shape_ok m levels (length ws) ≡ b → number_of (cond b (outcome (Ok None) (wipe (room m levels) ws)) (outcome (Err BadShape) ws)).answer ≡ 1
     go true e = absurd (bad (shape_is m levels (length ws) e))
     go false e = refl
 

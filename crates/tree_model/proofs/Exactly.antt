@@ -1,12 +1,12 @@
 -- Every refusal is given exactly for its cause.
 -- ---- each test for damage fails exactly where the node, the step or the path is damaged
-use Rattle.laws.specs.Prelude.{All, BadShape, Bool, Count, Damaged, Done, Exactly, Fails, Held, Idle, List, Means, Pop, Push, Refusal, Refused, Replace, Request, Unknown, [], ◌*◌, ◌+◌, ◌<◌, ◌||◌, ◌∙◌, ◌∷◌, ◌≡◌, ◌≤◌, ◌⊎◌, and_left, and_right, ap, arith, count_number, eq-eqb, eqb, eqb-true, fails-and, fails-every, fails-leb, fails-not-eqb, fails-not-every, fails-or, fails-true, false, false≢true, get_or, inl, inr, le-ltb, leb, leb-true, length, ltb, ltb-false, ltb-true, means-and, means-by, means-leb, not, not-suc-le-zero, number_of, or_right, pred, refl, refusal_number, subst, suc, sym, true, true≢false, zero, ℕ, ⊎_elim}
+use Rattle.laws.specs.Prelude.{All, BadShape, Bool, Damaged, Exactly, Fails, Idle, List, Means, Pop, Push, Refusal, Replace, Request, [], ◌*◌, ◌+◌, ◌<◌, ◌||◌, ◌∙◌, ◌∷◌, ◌≡◌, ◌≤◌, ◌⊎◌, and_left, and_right, ap, arith, count_number, eq-eqb, eqb, eqb-true, fails-and, fails-every, fails-leb, fails-not-eqb, fails-not-every, fails-or, fails-true, false, false≢true, get_or, inl, inr, le-ltb, leb, leb-true, length, ltb, ltb-false, ltb-true, means-and, means-by, means-leb, not, not-suc-le-zero, number_of, or_right, pred, refl, refusal_number, subst, suc, sym, true, true≢false, zero, ℕ, ⊎_elim, Result, Ok, Err, None}
 use Rattle.promise.proofs.Calls as calls
 use Rattle.promise.proofs.Calls.{last-guards, last-told, said, Tested}
 use Rattle.promise.specs.Prelude.{Barred, Kind, blank-fails, left}
 use Rattle.tree_model.proofs.Nothing.{op-work, work_none}
 use Rattle.tree_model.proofs.Words.{node-length}
-use Rattle.tree_model.specs.Prelude.{Level, Levels, Lifts, NodeDamaged, Nothing, Op, Outcome, PathDamaged, Put, ReadDamaged, Ruling, Shape, Slot, SlotDamaged, Some, StepDamaged, Swap, Take, Work, WorkDamaged, apply_words, called, clear_refusals, cleared, every, has_room, has_some, held_count, held_refusals, is_blank, is_empty, is_nothing, level_of, levels_of, lifts, lowest, node_ok, order_ok, outcome, path_ok, read_ok, refusals, room, root_of, root_ok, rule, rule_at, shape_ok, slot_at, slot_limit, slot_ok, step_ok, step_words, step_work, sum_counts, top, tree, under, way_ok, wipe, work, work_ok}
+use Rattle.tree_model.specs.Prelude.{Level, Levels, Lifts, NodeDamaged, Nothing, Op, Outcome, PathDamaged, Put, ReadDamaged, Ruling, Shape, Slot, SlotDamaged, IsWork, StepDamaged, Swap, Take, Work, WorkDamaged, apply_words, called, clear_refusals, cleared, every, has_room, has_some, held_count, held_refusals, is_blank, is_empty, is_nothing, level_of, levels_of, lifts, lowest, node_ok, order_ok, outcome, path_ok, read_ok, refusals, room, root_of, root_ok, rule, rule_at, shape_ok, slot_at, slot_limit, slot_ok, step_ok, step_words, step_work, sum_counts, top, tree, under, way_ok, wipe, work, work_ok}
 
 slot-fails : (r : ℕ) (s : Slot) → Fails (slot_ok r s) (SlotDamaged r s)
 unfolding slot_ok is_empty
@@ -47,7 +47,7 @@ lifts-fails (Put x) nd = fails-true
 lifts-fails Take nd = above-fails (slot_at nd (lowest nd)).count
 lifts-fails (Swap x) nd = above-fails (slot_at nd (lowest nd)).count
 
-pub nothing-fails : (o : Op) → Fails (is_nothing o) (Some o)
+pub nothing-fails : (o : Op) → Fails (is_nothing o) (IsWork o)
 unfolding is_nothing
 nothing-fails Nothing = fails-true
 nothing-fails (Put x) = record { found = λ e. tt; shown = λ d. refl }
@@ -146,15 +146,15 @@ module _ (m levels : ℕ) (r : Request) (ws : List ℕ) where
   abbrev pub g : Ruling
   g = rule_at m levels r ws
 
-  pub called-bad : shape_ok m levels (length ws) ≡ false → called m levels r ws ≡ outcome (Refused BadShape) ws
+  pub called-bad : shape_ok m levels (length ws) ≡ false → called m levels r ws ≡ outcome (Err BadShape) ws
   unfolding called
   called-bad s = rw s
 
-  pub called-root : shape_ok m levels (length ws) ≡ true → root_ok m levels ws ≡ false → called m levels r ws ≡ outcome (Refused Damaged) ws
+  pub called-root : shape_ok m levels (length ws) ≡ true → root_ok m levels ws ≡ false → called m levels r ws ≡ outcome (Err Damaged) ws
   unfolding called
   called-root s o = rw (s, o)
 
-  pub called-way : shape_ok m levels (length ws) ≡ true → root_ok m levels ws ≡ true → way_ok m levels g.op ws ≡ false → called m levels r ws ≡ outcome (Refused Damaged) ws
+  pub called-way : shape_ok m levels (length ws) ≡ true → root_ok m levels ws ≡ true → way_ok m levels g.op ws ≡ false → called m levels r ws ≡ outcome (Err Damaged) ws
   unfolding called rule
   called-way s o w = rw (s, o, w)
 
@@ -198,7 +198,7 @@ module _ (m levels : ℕ) (ws : List ℕ) where
   unfolding called
   stands r = calls.stands (tested m levels) r ws
 
-  pub cleared-fine : shape_ok m levels (length ws) ≡ true → cleared m levels ws ≡ outcome Done (wipe (room m levels) ws)
+  pub cleared-fine : shape_ok m levels (length ws) ≡ true → cleared m levels ws ≡ outcome (Ok None) (wipe (room m levels) ws)
   unfolding cleared
   cleared-fine e = rw e
 
@@ -206,16 +206,16 @@ module _ (m levels : ℕ) (ws : List ℕ) where
   unfolding cleared
   exactly-clear = calls.exactly-clear (tested m levels) ws
 
-  pub exactly-held : Exactly count_number Unknown (held_count m levels ws) (held_refusals m levels ws)
+  pub exactly-held : Exactly count_number Err (held_count m levels ws) (held_refusals m levels ws)
   unfolding held_count
   exactly-held = calls.exactly-held (tested m levels) ws
 
-  pub counted-either : (P : Count → Type 0) → ((x : Refusal) → P (Unknown x)) → P (Held (sum_counts (root_of m ws))) → P (held_count m levels ws)
+  pub counted-either : (P : Result ℕ Refusal → Type 0) → ((x : Refusal) → P (Err x)) → P (Ok (sum_counts (root_of m ws))) → P (held_count m levels ws)
   unfolding held_count
   counted-either = calls.counted-either (tree m levels) ws
 
 -- what is so of a refused call and of one that is done is so of the call
-pub called-either : (m levels : ℕ) (r : Request) (ws : List ℕ) (P : Outcome → Type 0) → ((x : Refusal) → P (outcome (Refused x) ws))
+pub called-either : (m levels : ℕ) (r : Request) (ws : List ℕ) (P : Outcome → Type 0) → ((x : Refusal) → P (outcome (Err x) ws))
     → (shape_ok m levels (length ws) ≡ true → root_ok m levels ws ≡ true → way_ok m levels (rule_at m levels r ws).op ws ≡ true
     → P (outcome (rule_at m levels r ws).answer (apply_words m levels (work (rule_at m levels r ws).op 0) 0 1 ws)))
     → P (called m levels r ws)

@@ -1,5 +1,5 @@
 -- The length decides nothing: two histories alike but for lengths are answered alike but for lengths.
-use Rattle.laws.specs.Prelude.{Answer, Bool, Done, Element, Empty, Full, Idle, List, NoTag, Out, Pop, Push, Refused, Replace, Request, [], ◌&&◌, ◌*◌, ◌+◌, ◌||◌, ◌∙◌, ◌∷◌, ◌≡◌, ap, ap₂, blank, cond, eqb, false, get_or, key, leb, length, ltb, map, not, not-suc-le-zero, precedes, refl, replicate, set, suc, sym, true, untagged, zero, ℕ}
+use Rattle.laws.specs.Prelude.{Answer, Bool, Element, Empty, Full, Idle, List, NoTag, Pop, Push, Replace, Request, [], ◌&&◌, ◌*◌, ◌+◌, ◌||◌, ◌∙◌, ◌∷◌, ◌≡◌, ap, ap₂, blank, cond, eqb, false, get_or, key, leb, length, ltb, map, not, not-suc-le-zero, precedes, refl, replicate, set, suc, sym, true, untagged, zero, ℕ, Ok, None, Some, Err}
 use Rattle.promise.specs.Prelude.{answers, short, short_answer, short_request}
 use Rattle.tree_model.proofs.Promises.{called-kept, Kept, kept-answer, kept-words, said, start-bare, start-kept}
 use Rattle.tree_model.specs.Prelude.{Level, Levels, Move, Nothing, Op, Put, Ruling, Shape, Slot, Swap, Take, Work, apply, bare_levels, called, every, first_empty, is_empty, keep, least_count, level_move, levels_of, low, lowest, op_move, pass, put_by, put_move, room, rule, ruled, ruling, seek, serve, short_level, short_levels, short_node, short_op, short_slot, slot_at, start, step_level, step_work, sum_counts, swap_by, swap_move, take_by, take_move, top, tree_queue, vacant, work}
@@ -166,9 +166,9 @@ cond_short false g h = refl
 rule-short : (c : ℕ) (r : Request) (nd : List Slot) → rule c (short_request r) (short_node nd) ≡ short_ruling (rule c r nd)
 unfolding rule untagged
 rule-short c Idle nd = refl
-rule-short c (Push x) nd = rw (sum-short nd, cond_short (eqb x.tag.0 0) (ruling (Refused NoTag) Nothing) (cond (ltb (sum_counts nd) c) (ruling Done (Put x)) (ruling (Refused Full) Nothing)), cond_short (ltb (sum_counts nd) c) (ruling Done (Put x)) (ruling (Refused Full) Nothing))
-rule-short c Pop nd = rw (sum-short nd, low-short nd, cond_short (eqb (sum_counts nd) 0) (ruling (Refused Empty) Nothing) (ruling (Out (low nd)) Take))
-rule-short c (Replace x) nd = rw (sum-short nd, low-short nd, cond_short (eqb x.tag.0 0) (ruling (Refused NoTag) Nothing) (cond (eqb (sum_counts nd) 0) (ruling (Refused Empty) Nothing) (ruling (Out (low nd)) (Swap x))), cond_short (eqb (sum_counts nd) 0) (ruling (Refused Empty) Nothing) (ruling (Out (low nd)) (Swap x)))
+rule-short c (Push x) nd = rw (sum-short nd, cond_short (eqb x.tag.0 0) (ruling (Err NoTag) Nothing) (cond (ltb (sum_counts nd) c) (ruling (Ok None) (Put x)) (ruling (Err Full) Nothing)), cond_short (ltb (sum_counts nd) c) (ruling (Ok None) (Put x)) (ruling (Err Full) Nothing))
+rule-short c Pop nd = rw (sum-short nd, low-short nd, cond_short (eqb (sum_counts nd) 0) (ruling (Err Empty) Nothing) (ruling (Ok (Some (low nd))) Take))
+rule-short c (Replace x) nd = rw (sum-short nd, low-short nd, cond_short (eqb x.tag.0 0) (ruling (Err NoTag) Nothing) (cond (eqb (sum_counts nd) 0) (ruling (Err Empty) Nothing) (ruling (Ok (Some (low nd))) (Swap x))), cond_short (eqb (sum_counts nd) 0) (ruling (Err Empty) Nothing) (ruling (Ok (Some (low nd))) (Swap x)))
 
 module _ (m k : ℕ) where
   ruled-short : (r : Request) (ls : Levels (suc k)) → ruled m k (short_request r) (short_levels (suc k) ls) ≡ short_ruling (ruled m k r ls)

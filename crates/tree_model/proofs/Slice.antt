@@ -1,5 +1,5 @@
 -- Where the words stand, in 01's numbers: the capacity, the place of each slot, what clear writes, and what held answers.
-use Rattle.laws.specs.Prelude.{Done, List, [], ◌*◌, ◌++◌, ◌+◌, ◌-◌, ◌<◌, ◌^◌, ◌∙◌, ◌≡◌, ◌≤◌, add-zero, ap, ap₂, arith, count_number, count_of, drop, get_or, get_or-replicate, length, length-append, length-drop, length-replicate, not-suc-le-zero, refl, replicate, suc, sum_to, sym, to-ext, zero, zero-add, ℕ}
+use Rattle.laws.specs.Prelude.{List, [], ◌*◌, ◌++◌, ◌+◌, ◌-◌, ◌<◌, ◌^◌, ◌∙◌, ◌≡◌, ◌≤◌, add-zero, ap, ap₂, arith, count_number, count_of, drop, get_or, get_or-replicate, length, length-append, length-drop, length-replicate, not-suc-le-zero, refl, replicate, suc, sum_to, sym, to-ext, zero, zero-add, ℕ, Ok, None}
 use native.Mathlib.Nat.{mul_assoc, mul-one, one-mul, pow-succ', pow-zero}
 use lib.ListN.{get_or-append}
 use lib.Seq.{get_or-append-add, get_or-drop}
@@ -63,7 +63,7 @@ wiped n ws h =
         ap (λ (p : ℕ). get_or (z ++ drop (n * 4) ws) p d) at ∙ get_or-append-add z (drop (n * 4) ws) (p - n * 4) d ∙ get_or-drop (n * 4) ws (p - n * 4) d
         ∙ ap (λ (p : ℕ). get_or ws p d) (omega arith)
 
-pub clear-zeroes : (m levels : ℕ) (ws : List ℕ) → Shape m levels (length ws) → ((cleared m levels ws).answer ≡ Done) × Zeroed (room m levels) ws (cleared m levels ws).words
+pub clear-zeroes : (m levels : ℕ) (ws : List ℕ) → Shape m levels (length ws) → ((cleared m levels ws).answer ≡ Ok None) × Zeroed (room m levels) ws (cleared m levels ws).words
 clear-zeroes m levels ws sh =
     let e = cleared-fine m levels ws (is-shape m levels (length ws) sh) in (
       ap (λ (o : Outcome). o.answer) e,

@@ -1,6 +1,6 @@
 -- The five calls of the one-at-a-time tree, each a total function of order, levels and words to an answer and the words afterwards: what the tree brings, to the calls that every queue has (`promise/specs/Calls.antt`).
 use Rattle.std.specs.Prelude.{◌&&◌, ◌*◌, ◌||◌}
-use Rattle.laws.specs.Prelude.{Answer, BadShape, Bool, Count, Idle, List, Pop, Push, Replace, Request, eqb, leb, length, pred, ℕ}
+use Rattle.laws.specs.Prelude.{Answer, BadShape, Bool, Idle, List, Pop, Push, Replace, Request, eqb, leb, length, pred, ℕ, Result, Refusal}
 use Rattle.promise.specs.Calls as calls
 use Rattle.promise.specs.Prelude.{Queue, ends, last_table, needs}
 use Rattle.tree_model.specs.declared.Slot.{Slot}
@@ -96,5 +96,5 @@ module _ (m levels : ℕ) where
   cleared ws = calls.cleared tree ws
 
   -- "Held for a tree is the sum of the root's counts, taken once the root passes test 2; the call held reads the root alone"
-  unfoldable pub held_count : List ℕ → Count
+  unfoldable pub held_count : List ℕ → Result ℕ Refusal
   held_count ws = calls.held_count tree ws

@@ -1,6 +1,6 @@
 -- [9] "The strip's length travels with it", order 2, levels 2: store A with lengths, replace 4/7 and pop. And order 4 and 8, where a node has more empty slots than one.
 use Rattle.std.specs.Prelude.{◌*◌, ◌++◌, ◌∷◌}
-use Rattle.laws.specs.Prelude.{Answer, Done, List, Out, Pop, Push, Replace, Request, [], element, map, replicate, ℕ}
+use Rattle.laws.specs.Prelude.{Answer, List, Pop, Push, Replace, Request, [], element, map, replicate, ℕ, Ok, None, Some}
 use Rattle.promise.specs.Prelude.{answers}
 use Rattle.tree_model.specs.Promise.{after, start, tree_queue}
 
@@ -28,7 +28,7 @@ unfoldable pub case_length_answers : List Answer
 case_length_answers = answers (tree_queue 2 2) (length_calls ++ (Replace (element 4 7 70) ∷ Pop ∷ [])) (start 2 2 (replicate 24 0))
 
 abbrev pub case_length_answers_say : List Answer
-case_length_answers_say = Done ∷ Done ∷ Done ∷ Done ∷ Out (element 1 10 100) ∷ Out (element 3 30 300) ∷ []
+case_length_answers_say = (Ok None) ∷ (Ok None) ∷ (Ok None) ∷ (Ok None) ∷ Ok (Some (element 1 10 100)) ∷ Ok (Some (element 3 30 300)) ∷ []
 
 -- ---- order 4 with two levels, and order 8 with one: the first empty slot of several, and the leftmost of the smallest counts
 abbrev by_tens : List ℕ → List Request

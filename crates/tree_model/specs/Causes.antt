@@ -48,11 +48,11 @@ Lifts Take nd = 1 < (slot_at nd (lowest nd)).count
 Lifts (Swap x) nd = 1 < (slot_at nd (lowest nd)).count
 
 -- is there something to do?
-abbrev pub Some : Op → Type 0
-Some Nothing = ⊥
-Some (Put x) = Unit {0}
-Some Take = Unit {0}
-Some (Swap x) = Unit {0}
+abbrev pub IsWork : Op → Type 0
+IsWork Nothing = ⊥
+IsWork (Put x) = Unit {0}
+IsWork Take = Unit {0}
+IsWork (Swap x) = Unit {0}
 
 module _ (m : ℕ) where
   abbrev pub StepDamaged : ℕ → Op → List Slot → (ℕ → List Slot) → Type 0
@@ -61,7 +61,7 @@ module _ (m : ℕ) where
   -- work for a level that has k levels below it: a node that "its level lacks", or a step that meets damage
   abbrev pub WorkDamaged : ℕ → Work → Level → Level → Type 0
   WorkDamaged k w l next =
-      Some w.op × ((length l ≤ w.node) ⊎ StepDamaged k w.op (get_or l w.node []) (λ j. get_or next (w.node * m + j) []))
+      IsWork w.op × ((length l ≤ w.node) ⊎ StepDamaged k w.op (get_or l w.node []) (λ j. get_or next (w.node * m + j) []))
 
   -- "An operation asked for reads the root, and nodes below as its rules reach them"
   abbrev pub PathDamaged : (k : ℕ) → Work → Levels k → Type 0

@@ -11,7 +11,7 @@ pub use Rattle.tree_model.specs.Levels.{Level, Levels, Shaped, idle}
 unfoldable pub use Rattle.tree_model.specs.Node.{every, first_empty, is_empty, is_nothing, keep, least_count, low, lowest, op_move, pass, put_by, put_move, seek, slot_at, sum_counts, swap_by, swap_move, take_by, take_move, vacant}
 pub use Rattle.tree_model.specs.Node.{move}
 unfoldable pub use Rattle.tree_model.specs.Promise.{level_at, stored_count}
-pub use Rattle.tree_model.specs.Promise.{Agree, Damage, Lifts, NodeDamaged, PathDamaged, PopThenPush, ReadDamaged, Shape, SlotDamaged, Some, StepDamaged, Stuck, WorkDamaged, Zeroed, after, clear_refusals, four_words, held_refusals, refusals, start, tree_queue}
+pub use Rattle.tree_model.specs.Promise.{Agree, Damage, Lifts, NodeDamaged, PathDamaged, PopThenPush, ReadDamaged, Shape, SlotDamaged, IsWork, StepDamaged, Stuck, WorkDamaged, Zeroed, after, clear_refusals, four_words, held_refusals, refusals, start, tree_queue}
 pub use Rattle.tree_model.specs.Rules.{Comes, IsFirst, IsLeast, IsLowest, LowerTag, Puts, Swaps, Takes, clears, empty, ends, exchanges, full, goes, idles, lacks, no-tag, passes, puts, receives, stays, swaps, takes}
 unfoldable pub use Rattle.tree_model.specs.Serve.{bare_levels, holding, ruled, serve}
 pub use Rattle.tree_model.specs.Serve.{Store}

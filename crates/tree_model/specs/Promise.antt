@@ -9,7 +9,7 @@ use Rattle.tree_model.specs.Levels.{Level, Levels, work}
 use Rattle.tree_model.specs.Node.{sum_counts}
 use Rattle.tree_model.specs.Words.{levels_of}
 use Rattle.tree_model.specs.declared.Slot.{Slot}
-pub use Rattle.tree_model.specs.Causes.{Lifts, NodeDamaged, PathDamaged, ReadDamaged, Shape, SlotDamaged, Some, StepDamaged, Stuck, WorkDamaged}
+pub use Rattle.tree_model.specs.Causes.{Lifts, NodeDamaged, PathDamaged, ReadDamaged, Shape, SlotDamaged, IsWork, StepDamaged, Stuck, WorkDamaged}
 unfoldable pub use Rattle.tree_model.specs.Causes.{stored_count}
 
 module _ (m : ℕ) where

@@ -1,11 +1,10 @@
 -- The scans by turns find the place that the rules choose: in turn, and by two pairs and then the winners.
 use Rattle.laws.specs.Prelude.{Bool, Element, List, ◌&&◌, ◌+◌, ◌<◌, ◌∙◌, ◌≡◌, ◌≤◌, add-one, ap, arith, false, length, ltb, ltb-false, ltb-true, ne_eqb, not-suc-le-zero, refl, subst, suc, sym, true, turn, ℕ}
 use Rattle.tree_node.proofs.Scans.{every-next, every_to, last-case, node-ok-end}
-use Rattle.tree_node.specs.declared.scan.Look.{Look}
-use Rattle.tree_node.specs.Look.{FirstFilled, highest, Led, NodeIn, turn_or}
+use Rattle.tree_node.specs.Look.{FirstFilled, highest, Led, turn_or}
 use Rattle.strip.proofs.Order.{tag-upto, turn-before, turn-upto}
 use Rattle.tree_model.proofs.Laws.{filled, lowest-none, lowest-unique, node-length, node-slot}
-use Rattle.tree_model.specs.Prelude.{is_empty, lowest, node_of, node_ok, slot_at, slot_limit, slot_of, slot_ok}
+use Rattle.tree_model.specs.Prelude.{is_empty, lowest, node_of, node_ok, slot_at, slot_of, slot_ok}
 use Rattle.tree_model.specs.declared.Slot.{Slot}
 
 -- rank and tag are words
@@ -278,15 +277,6 @@ module _ (ws : List ℕ) (i : ℕ) where
         (none-led four 4 (sym (node-length 4 ws i)) (λ a t. omega (arith, e, all-four.least a (omega arith) t)) (λ a t. all-four.words a (omega arith) t), omega arith)
 
 -- ---- any order
-pub four-asked : (m i r : ℕ) (ws : List ℕ) → m ≡ 4 → NodeIn m i ws → r ≤ slot_limit → NodeIn 4 i ws × (r ≤ slot_limit)
-four-asked m i r ws e z h = (subst (λ (m : ℕ). NodeIn m i ws) e z, h)
-
-abbrev Looked : ℕ → ℕ → ℕ → List ℕ → Look → Type 0
-Looked m i r ws v = (v.ok ≡ node_ok r (node_of m ws i)) × (Led (node_of m ws i) v.place × (v.place ≤ m))
-
-pub four-told : (m i r : ℕ) (ws : List ℕ) (v : Look) → m ≡ 4 → Looked 4 i r ws v → Looked m i r ws v
-four-told m i r ws v e z = subst (λ (m : ℕ). Looked m i r ws v) (sym e) z
-
 module _ (m i : ℕ) (ws : List ℕ) (p : ℕ) (z : Led (node_of m ws i) p) where
   pub low-found-first : (r : ℕ) → p ≡ m → FirstFilled (node_of m ws i) r → (r ≡ lowest (node_of m ws i)) × (r ≤ m)
   low-found-first r e f = (filled-lowest (node_of m ws i) p r (e ∙ sym (node-length m ws i)) z f, omega (arith, f.within, node-length m ws i))

@@ -1,9 +1,9 @@
 -- What the code of a node's tests and steps has read makes the test's answer and the step.
-use Rattle.laws.specs.Prelude.{All, Bool, Element, List, ◌%◌, ◌&&◌, ◌*◌, ◌+◌, ◌-◌, ◌/◌, ◌<◌, ◌^◌, ◌||◌, ◌∙◌, ◌≡◌, ◌≤◌, add-one, and-unit, ap, ap₂, arith, blank, eqb, eqb-true, false, false≢true, key, le-leb, le-ltb, leb, leb-false, leb-true, length, lt-leb, lt-ltb, ltb, mul-le-mul_right, not, not-false, not-true, pred, refl, sub-one, subst, suc, suc-add, sym, true, zero, zero-add, ℕ}
-use native.Mathlib.Nat.{mul-div_cancel, one-mul, pos_of_ne-zero, pow-suc}
-use lib.Dec.{lit<}
-use lib.Pow.{pow_mono, pow_pos, shl_exact}
-use Rattle.tree_node.specs.Room.{Capacity, Capped, child_of, lift_ok, low_below, slots_counted}
+use Rattle.laws.specs.Prelude.{All, Bool, Element, List, ◌%◌, ◌&&◌, ◌*◌, ◌+◌, ◌-◌, ◌/◌, ◌<◌, ◌^◌, ◌||◌, ◌∙◌, ◌≡◌, ◌≤◌, add-one, and-unit, ap, ap₂, arith, blank, eqb, eqb-true, false, false≢true, key, le-leb, le-ltb, leb, leb-false, leb-true, length, lt-leb, lt-ltb, ltb, min, mul-le-mul_right, not, not-false, not-true, pred, refl, sub-one, subst, suc, suc-add, sym, true, zero, zero-add, ℕ}
+use native.Mathlib.Nat.{mul-div_cancel, pos_of_ne-zero, pow-suc}
+use lib.Pow.{shl_exact}
+use Rattle.std.proofs.Math.Nat.{min-eq_left, min-eq_right}
+use Rattle.tree_node.specs.Room.{Capacity, child_of, lift_ok, low_below, slots_counted}
 use Rattle.tree_model.proofs.Laws.{all-slot_at, every-all, least-empty, least-full, least-in, least-room, lowest-is, lowest-none, node-length, node-slot, room-fails, slot-limit, some-sum, void}
 use Rattle.tree_model.specs.Prelude.{every, first_empty, has_room, has_some, is_empty, keep, least_count, lifts, low, lowest, move, node_move, node_of, node_ok, op_move, order_ok, pass, put_by, put_move, read_ok, room, shape_ok, slot_at, slot_limit, slot_of, slot_ok, slot_words, step_ok, sum_counts, swap_by, swap_move, take_by, take_move}
 use Rattle.tree_model.specs.declared.Move.{Move}
@@ -62,12 +62,8 @@ counted-room m (suc k) h l =
     rw (same, le-leb (room m k) slot_limit here)
 
 -- ---- powers of two, and their sums
-pub power-is : (k : ℕ) → k ≤ 18 → (1 * 2 ^ k % 2 ^ 64 ≡ 2 ^ k) × ((1 ≤ 1 * 2 ^ k % 2 ^ 64) × (1 * 2 ^ k % 2 ^ 64 ≤ 262144))
-power-is k h =
-    let e : 1 * 2 ^ k % 2 ^ 64 ≡ 2 ^ k = shl_exact 1 k 64 (lit< tt) (omega arith) ∙ one-mul (2 ^ k) in
-    let some : 1 ≤ 2 ^ k = pow_pos k in
-    let most : 2 ^ k ≤ 262144 = pow_mono h in
-    (e, (subst (λ (n : ℕ). 1 ≤ n) (sym e) some, subst (λ (n : ℕ). n ≤ 262144) (sym e) most))
+shifted : (a k : ℕ) → a ≤ 8 → k ≤ 18 → a * 2 ^ k % 2 ^ 64 ≡ a * 2 ^ k
+shifted a k few h = shl_exact 4 k 64 (omega arith) (omega arith)
 
 room-two : (k : ℕ) → room 2 k + 2 ≡ 2 * 2 ^ k
 unfolding room
@@ -88,17 +84,21 @@ room-eight (suc k) =
     let e : 3 * suc k ≡ suc (suc (suc (3 * k))) = omega arith in
     omega (arith, room-eight k, ap (λ (n : ℕ). 2 ^ n) e, pow-suc 2 (suc (suc (3 * k))), pow-suc 2 (suc (3 * k)), pow-suc 2 (3 * k))
 
-pub sum-two : (k p : ℕ) → p ≡ 2 ^ k → 2 * p - 2 ≡ room 2 k
-sum-two k p e = omega (arith, room-two k)
+pub sum-two : (k : ℕ) → k ≤ 16 → 2 * 2 ^ k % 2 ^ 64 - 2 ≡ room 2 k
+sum-two k h = omega (arith, room-two k, shifted 2 k (omega arith) (omega arith))
 
-pub sum-four : (k p : ℕ) → p ≡ 2 ^ (2 * k) → (4 * p - 4) / 3 ≡ room 4 k
-sum-four k p e = let s : 4 * p - 4 ≡ room 4 k * 3 = omega (arith, room-four k) in ap (λ (n : ℕ). n / 3) s ∙ mul-div_cancel (room 4 k) (omega arith)
+pub sum-four : (k : ℕ) → k ≤ 9 → (4 * 2 ^ (2 * k) % 2 ^ 64 - 4) / 3 ≡ room 4 k
+sum-four k h =
+    let s : 4 * 2 ^ (2 * k) % 2 ^ 64 - 4 ≡ room 4 k * 3 = omega (arith, room-four k, shifted 4 (2 * k) (omega arith) (omega arith)) in
+    ap (λ (n : ℕ). n / 3) s ∙ mul-div_cancel (room 4 k) (omega arith)
 
-pub sum-eight : (k p : ℕ) → p ≡ 2 ^ (3 * k) → (8 * p - 8) / 7 ≡ room 8 k
-sum-eight k p e = let s : 8 * p - 8 ≡ room 8 k * 7 = omega (arith, room-eight k) in ap (λ (n : ℕ). n / 7) s ∙ mul-div_cancel (room 8 k) (omega arith)
+pub sum-eight : (k : ℕ) → k ≤ 6 → (8 * 2 ^ (3 * k) % 2 ^ 64 - 8) / 7 ≡ room 8 k
+sum-eight k h =
+    let s : 8 * 2 ^ (3 * k) % 2 ^ 64 - 8 ≡ room 8 k * 7 = omega (arith, room-eight k, shifted 8 (3 * k) (omega arith) (omega arith)) in
+    ap (λ (n : ℕ). n / 7) s ∙ mul-div_cancel (room 8 k) (omega arith)
 
 -- .. so that no more levels need be looked at
-pub summed : (m n last levels k r : ℕ) → m ≡ n → 0 < n → room n (last - 1) ≤ slot_limit → slot_limit < room n last → Capped levels last k → r ≡ room n k
+pub summed : (m n last levels k r : ℕ) → m ≡ n → 0 < n → room n (last - 1) ≤ slot_limit → slot_limit < room n last → k ≡ min levels last → r ≡ room n k
     → Capacity m levels r × (r ≡ slots_counted m levels)
 summed m n last levels k r e h below above c er =
     subst (λ (m : ℕ). Capacity m levels r × (r ≡ slots_counted m levels)) (sym e) (go (leb levels last) refl)
@@ -106,11 +106,11 @@ summed m n last levels k r e h below above c er =
     go : (t : Bool) → leb levels last ≡ t → Capacity n levels r × (r ≡ slots_counted n levels)
     go true p =
         let l : levels ≤ last = leb-true levels last p in
-        let q : r ≡ room n levels = er ∙ ap (room n) (c.few l) in
+        let q : r ≡ room n levels = er ∙ ap (room n) (c ∙ min-eq_left l) in
         (capacity-end n levels levels r refl q, q ∙ sym (counted-room n levels h (omega (arith, room-up n (levels - 1) (last - 1) h (omega arith)))))
     go false p =
         let l : last ≤ levels = omega (arith, leb-false levels last p) in
-        let q : r ≡ room n last = er ∙ ap (room n) (c.many l) in
+        let q : r ≡ room n last = er ∙ ap (room n) (c ∙ min-eq_right l) in
         (capacity-above n levels last r h l (omega arith) q, counted-above n levels last r l (omega arith) (q ∙ sym (counted-room n last h below)))
 
 -- a slot's count by its words

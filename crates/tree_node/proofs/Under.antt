@@ -1,5 +1,5 @@
 -- The room below the next level's slots.
-use Rattle.laws.specs.Prelude.{◌*◌, ◌+◌, ◌-◌, ◌/◌, ◌<◌, ◌∙◌, ◌≡◌, ap, arith, mul-le-mul_right, refl, suc, sym, zero, zero-add, ℕ}
+use Rattle.laws.specs.Prelude.{◌*◌, ◌+◌, ◌-◌, ◌/◌, ◌<◌, ◌∙◌, ◌≡◌, ap, ap₂, arith, suc, sym, zero, zero-add, ℕ}
 use native.Mathlib.Nat.{add-mul-div_right, div-eq_of_lt, mul_comm, mul-suc}
 use Rattle.tree_node.specs.Room.{RoomUnder}
 use Rattle.tree_model.specs.Prelude.{room}
@@ -10,12 +10,7 @@ under-div m r q h e =
     ap (λ (n : ℕ). n / m) s ∙ add-mul-div_right (m - 1) q h ∙ ap (λ (n : ℕ). n + q) (div-eq_of_lt (omega arith)) ∙ zero-add q
 
 -- the room below a slot of the next level
-pub under_none : (m r : ℕ) → 0 < m → r ≡ 0 → RoomUnder m r 0
+pub under_is : (m d r others : ℕ) → 0 < m → m ≡ d → others ≡ r - 1 → RoomUnder m r (others / d)
 unfolding room
-under_none m r h z zero e = refl
-under_none m r h z (suc k) e = absurd (omega (arith, mul-le-mul_right (suc (room m k)) h))
-
-pub under_some : (m d r : ℕ) → 0 < m → m ≡ d → (r ≡ 0 → ⊥) → RoomUnder m r ((r - 1) / d)
-unfolding room
-under_some m d r h s z zero e = absurd (z e)
-under_some m d r h s z (suc k) e = ap (λ (d : ℕ). (r - 1) / d) (sym s) ∙ under-div m r (room m k) h e
+under_is m d r others h s o zero e = let z : others ≡ 0 = omega arith in ap₂ (λ (n d : ℕ). n / d) z (sym s) ∙ div-eq_of_lt h
+under_is m d r others h s o (suc k) e = ap₂ (λ (n d : ℕ). n / d) o (sym s) ∙ under-div m r (room m k) h e

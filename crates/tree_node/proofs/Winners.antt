@@ -1,12 +1,14 @@
 -- The scans of a full node find the places that the rules choose.
-use Rattle.laws.specs.Prelude.{Bool, List, ◌&&◌, ◌+◌, ◌<◌, ◌∙◌, ◌≡◌, ◌≤◌, ap, arith, cond, eqb, eqb-false, false, le-leb, le-ltb, ltb, ltb-false, ltb-true, ne_eqb, refl, subst, suc, sym, true, zero, ℕ}
+use Rattle.std.specs.Prelude.{None, Some}
+use Rattle.std.specs.Bool.{then_some}
+use Rattle.laws.specs.Prelude.{Bool, List, ◌&&◌, ◌+◌, ◌<◌, ◌∙◌, ◌≡◌, ◌≤◌, and_left, ap, arith, cond, eqb, eqb-false, false, le-leb, lt-ltb, ltb, ltb-true, max, ne_eqb, refl, subst, suc, sym, true, zero, ℕ}
 use Rattle.strip.proofs.Order.{turn-before, turn-upto}
 use Rattle.tree_node.proofs.Leads.{side-case}
 use Rattle.tree_node.proofs.Scans.{every_to, node-ok-end}
 use Rattle.tree_node.proofs.Steps.{some-test}
 use Rattle.tree_node.specs.declared.full.Winner.{Winner}
-use Rattle.tree_node.specs.Full.{below, by_count, by_turn, FullLow, larger, Wins}
-use Rattle.tree_node.specs.Look.{least_or, low_or}
+use Rattle.tree_node.specs.Full.{below, by_count, by_turn, FullLow, Wins}
+use Rattle.tree_node.specs.Look.{least_in, low_in}
 use Rattle.tree_model.proofs.Laws.{least-in, least-unique, lowest-unique, node-length, node-slot}
 use Rattle.tree_model.specs.Prelude.{has_some, is_empty, least_count, lowest, node_of, node_ok, slot_at, slot_limit, slot_of, slot_ok}
 use Rattle.tree_model.specs.declared.Slot.{Slot}
@@ -32,28 +34,12 @@ module _ (f : Slot → ℕ) (ws : List ℕ) (i j : ℕ) (x : Slot) (read : x ≡
       }
 
 -- ---- two neighbouring stretches
-larger-first : (a b : ℕ) → a ≤ larger a b
-unfolding larger
-larger-first a b = go (ltb a b) refl
-  where
-    go : (t : Bool) → ltb a b ≡ t → a ≤ larger a b
-    go true e = rw e (omega (arith, ltb-true a b e))
-    go false e = rw e (omega arith)
-
-larger-second : (a b : ℕ) → b ≤ larger a b
-unfolding larger
-larger-second a b = go (ltb a b) refl
-  where
-    go : (t : Bool) → ltb a b ≡ t → b ≤ larger a b
-    go true e = rw e (omega arith)
-    go false e = rw e (ltb-false a b e)
-
 module _ (f : Slot → ℕ) (ws : List ℕ) (i lo mid hi : ℕ) (a b : Winner) (x : Wins f ws i lo mid a) (y : Wins f ws i mid hi b) (v : Winner)
-    (em : v.most ≡ larger a.most b.most) where
+    (em : v.most ≡ max a.most b.most) where
   both_under : (c : ℕ) → lo ≤ c → c < hi → below (slot_of ws (i + c)) ≤ v.most
   both_under c h t =
-      side-case c mid _ (λ s. omega (arith, x.under c h s, larger-first a.most b.most, em))
-      (λ s. omega (arith, y.under c s t, larger-second a.most b.most, em))
+      side-case c mid _ (λ s. omega (arith, x.under c h s, em))
+      (λ s. omega (arith, y.under c s t, em))
 
   both-tags : (c : ℕ) → lo ≤ c → c < hi → (slot_of ws (i + c)).element.tag.0 < 4294967296
   both-tags c h t = side-case c mid _ (λ s. x.tags c h s) (λ s. y.tags c s t)
@@ -151,95 +137,94 @@ module _ (m : ℕ) (ws : List ℕ) (i r : ℕ) (few : r ≤ slot_limit) (v : Win
       (λ a t. omega (arith, own, wins-at by_count m ws i r few v w h a (omega (arith, t, node-length m ws i))))
       (λ a t. omega (arith, own, wins-left by_count m ws i r few v w h a t)))
 
--- ---- by the order
-module _ (m n : ℕ) (same : m ≡ n) (ws : List ℕ) (i r : ℕ) (few : r ≤ slot_limit) (v : Winner) where
-  pub low-full : Wins by_turn ws i 0 n v → v.most ≤ r → FullLow m r (node_of m ws i) v.place
+-- ---- a winner with no more below any place than there is room for
+module _ (m : ℕ) (ws : List ℕ) (i r : ℕ) (few : r ≤ slot_limit) (v : Winner) where
+  pub low-full : Wins by_turn ws i 0 m v → v.most ≤ r → FullLow m r (node_of m ws i) v.place
   low-full w h =
-      let w' : Wins by_turn ws i 0 m v = subst (λ (n : ℕ). Wins by_turn ws i 0 n v) (sym same) w in
       record {
-        within = omega (arith, w'.to);
-        whole = λ t. full-whole by_turn m ws i r few v w' h;
-        place = λ t. full-lowest m ws i r few v w' h;
+        inside = w.to;
+        whole = full-whole by_turn m ws i r few v w h;
+        place = full-lowest m ws i r few v w h;
       }
 
-  pub least-full-or : Wins by_count ws i 0 n v → v.most ≤ r → v.place ≡ least_or m r (node_of m ws i)
-  unfolding least_or
-  least-full-or w h =
-      let w' : Wins by_count ws i 0 m v = subst (λ (n : ℕ). Wins by_count ws i 0 n v) (sym same) w in
-      rw (full-whole by_count m ws i r few v w' h) (full-least m ws i r few v w' h)
+  pub least-full : Wins by_count ws i 0 m v → v.most ≤ r → Some v.place ≡ least_in r (node_of m ws i)
+  unfolding least_in
+  least-full w h = rw (full-whole by_count m ws i r few v w h) (ap Some (full-least m ws i r few v w h))
 
-pub not_full : (m r : ℕ) (nd : List Slot) → FullLow m r nd m
-not_full m r nd = record { within = omega arith; whole = λ t. absurd (omega arith); place = λ t. absurd (omega arith) }
-
--- ---- as one number
-module _ (m r : ℕ) (nd : List Slot) where
-  pub low-or-full : (p : ℕ) → FullLow m r nd p → (p ≡ m → ⊥) → (p ≡ low_or m r nd) × (p ≤ m)
-  unfolding low_or
-  low-or-full p z ne = let h : p < m = omega (arith, z.within, ne) in (rw (z.whole h) (z.place h), z.within)
-
-  pub low-seen : (p : ℕ) → FullLow m r nd p → (p ≡ m → ⊥) → (true ≡ node_ok r nd) × ((p ≡ lowest nd) × (p ≤ m))
-  low-seen p z ne = let h : p < m = omega (arith, z.within, ne) in (sym (z.whole h), (z.place h, z.within))
-
-  pub low-or-fine : (p : ℕ) (t : Bool) → t ≡ node_ok r nd → p ≡ lowest nd → t ≡ true → p ≡ low_or m r nd
-  unfolding low_or
-  low-or-fine p t e ep et = rw (sym e ∙ et) ep
-
-  pub low-or-not : (t : Bool) → t ≡ node_ok r nd → t ≡ false → m ≡ low_or m r nd
-  unfolding low_or
-  low-or-not t e et = rw (sym e ∙ et) refl
-
-  pub least-or-fine : (p : ℕ) (t : Bool) → t ≡ node_ok r nd → p ≡ least_count nd → t ≡ true → p ≡ least_or m r nd
-  unfolding least_or
-  least-or-fine p t e ep et = rw (sym e ∙ et) ep
-
-  pub least-or-not : (t : Bool) → t ≡ node_ok r nd → t ≡ false → m ≡ least_or m r nd
-  unfolding least_or
-  least-or-not t e et = rw (sym e ∙ et) refl
-
--- ---- what that number says
-module _ (m : ℕ) (ws : List ℕ) (i r p : ℕ) (found : p ≡ low_or m r (node_of m ws i)) where
+-- ---- what a scan answers
+module _ (m : ℕ) (ws : List ℕ) (i r : ℕ) where
   abbrev met : List Slot
   met = node_of m ws i
 
-  by-test : (t : Bool) → node_ok r met ≡ t → p ≡ cond t (lowest met) m
-  unfolding low_or
-  by-test t e = found ∙ ap (λ (t : Bool). cond t (lowest met) m) e
-
-  pub low-or-test : ltb p m ≡ (node_ok r met && has_some met)
-  low-or-test = go (node_ok r met) refl
+  -- the lowest, of a node in order that holds something
+  low-by : (p : ℕ) (t : Bool) → p ≡ lowest met → t ≡ (node_ok r met && has_some met) → then_some t p ≡ low_in r met
+  unfolding low_in
+  low-by p t e et = rw (et, e) (go (node_ok r met && has_some met))
     where
-      go : (t : Bool) → node_ok r met ≡ t → ltb p m ≡ (node_ok r met && has_some met)
-      go true e = some-test m ws i p r true (by-test true e) (sym e)
-      go false e = rw e (le-ltb p m (omega (arith, by-test false e)))
+      go : (t : Bool) → then_some t (lowest met) ≡ cond t (Some (lowest met)) None
+      go true = refl
+      go false = refl
 
-  pub low-or-place : p < m → (node_ok r met ≡ true) × (p ≡ lowest met)
-  low-or-place h = go (node_ok r met) refl
+  pub low-in-full : (p : ℕ) → FullLow m r met p → Some p ≡ low_in r met
+  low-in-full p z = low-by p true z.place (rw (← lt-ltb p m z.inside) (some-test m ws i p r true z.place (sym z.whole)))
+
+  pub low-in-seen : (p : ℕ) (t : Bool) → t ≡ node_ok r met → p ≡ lowest met → then_some (t && ltb p m) p ≡ low_in r met
+  low-in-seen p t et e = low-by p (t && ltb p m) e (some-test m ws i p r t e et)
+
+  pub least-in-seen : (p : ℕ) (t : Bool) → t ≡ node_ok r met → p ≡ least_count met → then_some t p ≡ least_in r met
+  unfolding least_in
+  least-in-seen p t et e = rw (et, e) (go (node_ok r met))
     where
-      go : (t : Bool) → node_ok r met ≡ t → (node_ok r met ≡ true) × (p ≡ lowest met)
-      go true e = (e, by-test true e)
-      go false e = absurd (omega (arith, by-test false e))
+      go : (t : Bool) → then_some t (least_count met) ≡ cond t (Some (least_count met)) None
+      go true = refl
+      go false = refl
 
-module _ (m : ℕ) (ws : List ℕ) (i r j : ℕ) (some : 0 < m) (found : j ≡ least_or m r (node_of m ws i)) where
+-- ---- what that answer says
+module _ (m : ℕ) (ws : List ℕ) (i r : ℕ) where
+  abbrev looked : List Slot
+  looked = node_of m ws i
+
+  pub low-in-none : None ≡ low_in r looked → false ≡ (node_ok r looked && has_some looked)
+  unfolding low_in
+  low-in-none e = go (node_ok r looked && has_some looked) e
+    where
+      go : (t : Bool) → None ≡ cond t (Some (lowest looked)) None → false ≡ t
+      go true e = cc
+      go false e = refl
+
+  pub low-in-some : (p : ℕ) → Some p ≡ low_in r looked → (true ≡ (node_ok r looked && has_some looked)) × (p ≡ lowest looked)
+  unfolding low_in
+  low-in-some p e = go (node_ok r looked && has_some looked) e
+    where
+      go : (t : Bool) → Some p ≡ cond t (Some (lowest looked)) None → (true ≡ t) × (p ≡ lowest looked)
+      go true e = (refl, cc)
+      go false e = cc
+
+  pub low-in-place : (p : ℕ) → Some p ≡ low_in r looked → (node_ok r looked ≡ true) × ((p ≡ lowest looked) × (p < m))
+  low-in-place p e =
+      let s = low-in-some p e in
+      let ok : node_ok r looked ≡ true = and_left (node_ok r looked) (has_some looked) (sym s.0) in
+      (ok, (s.1, ltb-true p m (some-test m ws i p r true s.1 (sym ok) ∙ sym s.0)))
+
+module _ (m : ℕ) (ws : List ℕ) (i r : ℕ) (some : 0 < m) where
   abbrev here-met : List Slot
   here-met = node_of m ws i
 
   least-place : least_count here-met < m
   least-place = omega (arith, least-in here-met (omega (arith, node-length m ws i)), node-length m ws i)
 
-  least-by-test : (t : Bool) → node_ok r here-met ≡ t → j ≡ cond t (least_count here-met) m
-  unfolding least_or
-  least-by-test t e = found ∙ ap (λ (t : Bool). cond t (least_count here-met) m) e
-
-  pub least-or-place : (j ≡ m → ⊥) → (true ≡ node_ok r here-met) × ((j ≡ least_count here-met) × (j < m))
-  least-or-place ne = go (node_ok r here-met) refl
+  pub least-in-some : (j : ℕ) → Some j ≡ least_in r here-met → (true ≡ node_ok r here-met) × ((j ≡ least_count here-met) × (j < m))
+  unfolding least_in
+  least-in-some j e = go (node_ok r here-met) e
     where
-      go : (t : Bool) → node_ok r here-met ≡ t → (true ≡ node_ok r here-met) × ((j ≡ least_count here-met) × (j < m))
-      go true e = (sym e, (least-by-test true e, omega (arith, least-by-test true e, least-place)))
-      go false e = absurd (ne (least-by-test false e))
+      go : (t : Bool) → Some j ≡ cond t (Some (least_count here-met)) None → (true ≡ t) × ((j ≡ least_count here-met) × (j < m))
+      go true e = let s : j ≡ least_count here-met = cc in (refl, (s, omega (arith, s, least-place)))
+      go false e = cc
 
-  pub least-or-off : j ≡ m → (false ≡ node_ok r here-met) × (least_count here-met < m)
-  least-or-off at-end = go (node_ok r here-met) refl
+  pub least-in-none : None ≡ least_in r here-met → (false ≡ node_ok r here-met) × (least_count here-met < m)
+  unfolding least_in
+  least-in-none e = (go (node_ok r here-met) e, least-place)
     where
-      go : (t : Bool) → node_ok r here-met ≡ t → (false ≡ node_ok r here-met) × (least_count here-met < m)
-      go true e = absurd (omega (arith, least-by-test true e, least-place, at-end))
-      go false e = (sym e, least-place)
+      go : (t : Bool) → None ≡ cond t (Some (least_count here-met)) None → false ≡ t
+      go true e = cc
+      go false e = refl

@@ -1,6 +1,6 @@
 -- What a scan of a full node says.
 use Rattle.std.specs.Prelude.{◌+◌, ◌-◌, ◌<◌, ◌≡◌, ◌≤◌}
-use Rattle.laws.specs.Prelude.{List, cond, ltb, true, turn, ℕ}
+use Rattle.laws.specs.Prelude.{List, cond, true, turn, ℕ}
 use Rattle.tree_node.specs.declared.full.Winner.{Winner}
 use Rattle.tree_model.specs.Prelude.{is_empty, lowest, node_ok, slot_of}
 use Rattle.tree_model.specs.declared.Slot.{Slot}
@@ -9,8 +9,9 @@ use Rattle.tree_model.specs.declared.Slot.{Slot}
 unfoldable pub below : Slot → ℕ
 below s = cond (is_empty s) 4294967295 (s.count - 1)
 
-unfoldable pub larger : ℕ → ℕ → ℕ
-larger a b = cond (ltb a b) b a
+-- what calls of a key answer is f of the slot
+abbrev pub Keys : (Slot → ℕ → Type 0) → (Slot → ℕ) → Type 0
+Keys post f = (a : Slot) (n : ℕ) → post a n → n ≡ f a
 
 -- what places win by
 abbrev pub by_turn : Slot → ℕ
@@ -29,8 +30,8 @@ pub record Wins (f : Slot → ℕ) (ws : List ℕ) (i lo hi : ℕ) (v : Winner) 
   pub under : (a : ℕ) → lo ≤ a → a < hi → below (slot_of ws (i + a)) ≤ v.most
   pub tags : (a : ℕ) → lo ≤ a → a < hi → (slot_of ws (i + a)).element.tag.0 < 4294967296
 
--- a place is the lowest of a node that is not damaged; the order says nothing
+-- place p is the lowest of a node that is not damaged
 pub record FullLow (m r : ℕ) (nd : List Slot) (p : ℕ) : Type 0 where
-  pub within : p ≤ m
-  pub whole : p < m → node_ok r nd ≡ true
-  pub place : p < m → p ≡ lowest nd
+  pub inside : p < m
+  pub whole : node_ok r nd ≡ true
+  pub place : p ≡ lowest nd

@@ -1,7 +1,7 @@
 -- What a scan of a node asks of the words, and what it finds.
-use Rattle.std.specs.Prelude.{◌*◌, ◌+◌, ◌<◌, ◌≡◌, ◌≤◌}
+use Rattle.std.specs.Prelude.{◌&&◌, ◌*◌, ◌+◌, ◌<◌, ◌≡◌, ◌≤◌, None, Option, Some}
 use Rattle.laws.specs.Prelude.{List, cond, length, turn, ℕ}
-use Rattle.tree_model.specs.Prelude.{is_empty, least_count, lowest, node_ok, slot_at, slot_words}
+use Rattle.tree_model.specs.Prelude.{has_some, is_empty, least_count, lowest, node_ok, slot_at, slot_words}
 use Rattle.tree_model.specs.declared.Slot.{Slot}
 
 -- a node of m slots lies within the words
@@ -31,9 +31,9 @@ pub record FirstFilled (nd : List Slot) (p : ℕ) : Type 0 where
   pub here : p < length nd → 0 < (slot_at nd p).count
   pub left : (a : ℕ) → a < p → (slot_at nd a).count ≡ 0
 
--- the place that a take, a swap or a read for the lowest chooses, and a put; the order where the node is damaged
-unfoldable pub low_or : ℕ → ℕ → List Slot → ℕ
-low_or m r nd = cond (node_ok r nd) (lowest nd) m
+-- the place that a take, a swap or a read for the lowest chooses in a node that is not damaged and holds something, and a put in one that is not damaged
+unfoldable pub low_in : ℕ → List Slot → Option ℕ
+low_in r nd = cond (node_ok r nd && has_some nd) (Some (lowest nd)) None
 
-unfoldable pub least_or : ℕ → ℕ → List Slot → ℕ
-least_or m r nd = cond (node_ok r nd) (least_count nd) m
+unfoldable pub least_in : ℕ → List Slot → Option ℕ
+least_in r nd = cond (node_ok r nd) (Some (least_count nd)) None

@@ -46,12 +46,6 @@ pub record Capacity (m levels r : ℕ) : Type 0 where
   pub within : room m levels ≤ slot_limit → r ≡ room m levels
   pub above : slot_limit < room m levels → slot_limit < r
 
--- the levels, or the last where there are more
-pub record Capped (levels last k : ℕ) : Type 0 where
-  pub most : k ≤ last
-  pub few : levels ≤ last → k ≡ levels
-  pub many : last ≤ levels → k ≡ last
-
 -- .. and the room of the next level by this one's
 abbrev pub RoomUnder : ℕ → ℕ → ℕ → Type 0
 RoomUnder m r u = (k : ℕ) → r ≡ room m k → u ≡ room m (pred k)

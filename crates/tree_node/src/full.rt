@@ -1,9 +1,9 @@
 // A full node, scanned by pairs and then by their winners: no slot waits for the one before it, and one number of the winner says whether
 // every slot is occupied and has no more below it than there is room for.
-ghost use Rattle.std.specs.Prelude.{◌≡◌, List, ◌+◌, ◌*◌, ◌≤◌, ℕ, length};
+ghost use Rattle.std.specs.Prelude.{◌≡◌, List, ◌+◌, ◌*◌, ◌≤◌, ℕ, length, IfSome};
 ghost use Rattle.tree_model.specs.Calls.{slot_limit};
 ghost use Rattle.tree_model.specs.Words.{node_of, slot_words};
-ghost use Rattle.tree_node.specs.Full.{below, by_count, by_turn, larger, FullLow, Wins};
+ghost use Rattle.tree_node.specs.Full.{below, FullLow, Keys, Wins};
 ghost use Rattle.tree_node.specs.Look.{NodeIn};
 
 use crate::slot::slot_at;
@@ -22,146 +22,98 @@ pub struct Winner {
 fn below_of(a: Slot) -> u32
     ensures { result ≡ below a }
 {
-    let count = a.count;
-    if count == 0 {
-        return 4294967295;
+    if a.count == 0 {
+        return u32::MAX;
     }
-    count - 1
-}
-
-fn larger_of(a: u32, b: u32) -> u32
-    ensures { result ≡ larger a b }
-{
-    if a < b {
-        return b;
-    }
-    a
+    a.count - 1
 }
 
 // The winner of two neighbouring stretches, by the winner of each. On a tie the left one stays, so that the leftmost wins.
 fn winner_of(a: Winner, b: Winner) -> Winner
     ensures { (f : Slot → ℕ) (ws : List ℕ) (i lo mid hi : ℕ) → Wins f ws i lo mid a → Wins f ws i mid hi b → Wins f ws i lo hi result }
 {
-    let most = larger_of(a.most, b.most);
+    let most = a.most.max(b.most);
     if b.key < a.key {
-        return Winner {
-            place: b.place,
-            key: b.key,
-            most,
-        };
+        return Winner { most, ..b };
     }
-    Winner {
-        place: a.place,
-        key: a.key,
-        most,
-    }
+    Winner { most, ..a }
 }
 
-// ---- the element that leaves first
+// ---- one, two, four and eight places from place j on: `key` says what a slot wins by
 
-fn low_one(s: &[u32], at: usize, j: usize) -> Winner
-    requires { slot_words * (at + j + 1) ≤ length s.now }
-    ensures { Wins by_turn s.now at j (j + 1) result }
+fn one<F: Fn(Slot) -> u64>(s: &[u32], at: usize, j: usize, key: &F) -> Winner
+    requires inside { slot_words * (at + j + 1) ≤ length s.now }
+    requires calls { F.IsAlwaysCallable key.now }
+    ensures { (f : Slot → ℕ) → Keys (F.post key.now) f → Wins f s.now at j (j + 1) result }
 {
     let a = slot_at(s, at + j);
-    let element = a.element;
+    let k = key(a);
     Winner {
         place: j,
-        key: turn_of(element),
+        key: k,
         most: below_of(a),
     }
 }
 
-fn low_two(s: &[u32], at: usize, j: usize) -> Winner
-    requires { slot_words * (at + j + 2) ≤ length s.now }
-    ensures { Wins by_turn s.now at j (j + 2) result }
+fn two<F: Fn(Slot) -> u64>(s: &[u32], at: usize, j: usize, key: &F) -> Winner
+    requires inside { slot_words * (at + j + 2) ≤ length s.now }
+    requires calls { F.IsAlwaysCallable key.now }
+    ensures { (f : Slot → ℕ) → Keys (F.post key.now) f → Wins f s.now at j (j + 2) result }
 {
-    let left = low_one(s, at, j);
-    let right = low_one(s, at, j + 1);
+    let left = one(s, at, j, key);
+    let right = one(s, at, j + 1, key);
     winner_of(left, right)
 }
 
-fn low_four(s: &[u32], at: usize, j: usize) -> Winner
-    requires { slot_words * (at + j + 4) ≤ length s.now }
-    ensures { Wins by_turn s.now at j (j + 4) result }
+fn four<F: Fn(Slot) -> u64>(s: &[u32], at: usize, j: usize, key: &F) -> Winner
+    requires inside { slot_words * (at + j + 4) ≤ length s.now }
+    requires calls { F.IsAlwaysCallable key.now }
+    ensures { (f : Slot → ℕ) → Keys (F.post key.now) f → Wins f s.now at j (j + 4) result }
 {
-    let left = low_two(s, at, j);
-    let right = low_two(s, at, j + 2);
+    let left = two(s, at, j, key);
+    let right = two(s, at, j + 2, key);
     winner_of(left, right)
 }
 
-fn low_eight(s: &[u32], at: usize) -> Winner
-    requires { slot_words * (at + 8) ≤ length s.now }
-    ensures { Wins by_turn s.now at 0 8 result }
+fn eight<F: Fn(Slot) -> u64>(s: &[u32], at: usize, key: &F) -> Winner
+    requires inside { slot_words * (at + 8) ≤ length s.now }
+    requires calls { F.IsAlwaysCallable key.now }
+    ensures { (f : Slot → ℕ) → Keys (F.post key.now) f → Wins f s.now at 0 8 result }
 {
-    let left = low_four(s, at, 0);
-    let right = low_four(s, at, 4);
+    let left = four(s, at, 0, key);
+    let right = four(s, at, 4, key);
     winner_of(left, right)
 }
 
-// The place of the element that leaves first in a full node that is not damaged; the order where the node is another one.
-pub fn full_low(s: &[u32], at: usize, order: usize, room: usize) -> usize
+// The winner of a full node with no more below any place than there is room for; none says nothing of the node.
+pub fn full<F: Fn(Slot) -> u64>(
+    s: &[u32],
+    at: usize,
+    order: usize,
+    room: usize,
+    key: &F,
+) -> Option<Winner>
+    requires inside { NodeIn order at s.now × (room ≤ slot_limit) }
+    requires calls { F.IsAlwaysCallable key.now }
+    ensures { (f : Slot → ℕ) → Keys (F.post key.now) f → IfSome result (λ v. Wins f s.now at 0 order v × (v.most ≤ room)) }
+{
+    let v = match order {
+        2 => two(s, at, 0, key),
+        4 => four(s, at, 0, key),
+        8 => eight(s, at, key),
+        _ => return None,
+    };
+    if v.most as usize <= room {
+        return Some(v);
+    }
+    None
+}
+
+// The place of the element that leaves first in a full node that is not damaged; none says nothing of the node.
+pub fn full_low(s: &[u32], at: usize, order: usize, room: usize) -> Option<usize>
     requires { NodeIn order at s.now × (room ≤ slot_limit) }
-    ensures { FullLow order room (node_of order s.now at) result }
+    ensures { IfSome result (FullLow order room (node_of order s.now at)) }
 {
-    if order == 4 {
-        let v = low_four(s, at, 0);
-        if v.most as usize <= room {
-            return v.place;
-        }
-    }
-    if order == 2 {
-        let v = low_two(s, at, 0);
-        if v.most as usize <= room {
-            return v.place;
-        }
-    }
-    if order == 8 {
-        let v = low_eight(s, at);
-        if v.most as usize <= room {
-            return v.place;
-        }
-    }
-    order
-}
-
-// ---- the smallest count
-
-fn few_one(s: &[u32], at: usize, j: usize) -> Winner
-    requires { slot_words * (at + j + 1) ≤ length s.now }
-    ensures { Wins by_count s.now at j (j + 1) result }
-{
-    let a = slot_at(s, at + j);
-    Winner {
-        place: j,
-        key: a.count as u64,
-        most: below_of(a),
-    }
-}
-
-pub fn few_two(s: &[u32], at: usize, j: usize) -> Winner
-    requires { slot_words * (at + j + 2) ≤ length s.now }
-    ensures { Wins by_count s.now at j (j + 2) result }
-{
-    let left = few_one(s, at, j);
-    let right = few_one(s, at, j + 1);
-    winner_of(left, right)
-}
-
-pub fn few_four(s: &[u32], at: usize, j: usize) -> Winner
-    requires { slot_words * (at + j + 4) ≤ length s.now }
-    ensures { Wins by_count s.now at j (j + 4) result }
-{
-    let left = few_two(s, at, j);
-    let right = few_two(s, at, j + 2);
-    winner_of(left, right)
-}
-
-pub fn few_eight(s: &[u32], at: usize) -> Winner
-    requires { slot_words * (at + 8) ≤ length s.now }
-    ensures { Wins by_count s.now at 0 8 result }
-{
-    let left = few_four(s, at, 0);
-    let right = few_four(s, at, 4);
-    winner_of(left, right)
+    let v = full(s, at, order, room, &|a: Slot| turn_of(a.element))?;
+    Some(v.place)
 }

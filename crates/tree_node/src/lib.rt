@@ -4,7 +4,7 @@
 
 ghost use Rattle.std.specs.Prelude.{◌≡◌, ◌<◌, ◌^◌, ◌≤◌};
 ghost use Rattle.tree_model.specs.Calls.{order_ok, shape_ok};
-ghost use Rattle.tree_node.specs.Room.{Capacity, Capped, RoomUnder, slots_counted};
+ghost use Rattle.tree_node.specs.Room.{Capacity, RoomUnder, slots_counted};
 
 pub mod full;
 pub mod scan;
@@ -16,25 +16,6 @@ use shape::{shape_fits, shape_of};
 // The largest capacity of a tree.
 pub const SLOT_LIMIT: usize = 87380;
 
-// Two to the power of k.
-fn power(k: usize) -> usize
-    requires { k ≤ 18 }
-    ensures is { result ≡ 2 ^ k }
-    ensures range { (1 ≤ result) × (result ≤ 262144) }
-{
-    1 << k
-}
-
-// The levels, or the last where there are more.
-fn capped(levels: usize, last: usize) -> usize
-    ensures { Capped levels last result }
-{
-    if levels < last {
-        return levels;
-    }
-    last
-}
-
 // The slots counted level by level, for any order, until they are above the limit.
 fn count_slots(order: usize, levels: usize) -> usize
     requires { (0 < order) × (order ≤ 8) }
@@ -42,10 +23,11 @@ fn count_slots(order: usize, levels: usize) -> usize
     ensures stops { result ≡ slots_counted order levels }
 {
     let mut slots: usize = 0;
-    let mut i = 0;
-    while i < levels && slots <= SLOT_LIMIT {
+    for i in 0..levels {
+        if SLOT_LIMIT < slots {
+            break;
+        }
         slots = order * (slots + 1);
-        i += 1;
     }
     slots
 }
@@ -58,24 +40,18 @@ pub fn capacity(order: usize, levels: usize) -> usize
     ensures counts { Capacity order levels result }
     ensures stops { result ≡ slots_counted order levels }
 {
-    if order == 2 {
-        let last = power(capped(levels, 16));
-        return 2 * last - 2;
+    match order {
+        2 => (2 << levels.min(16)) - 2,
+        4 => ((4 << (2 * levels.min(9))) - 4) / 3,
+        8 => ((8 << (3 * levels.min(6))) - 8) / 7,
+        _ => count_slots(order, levels), // no tree has another order
     }
-    if order == 4 {
-        let last = power(2 * capped(levels, 9));
-        return (4 * last - 4) / 3;
-    }
-    if order == 8 {
-        let last = power(3 * capped(levels, 6));
-        return (8 * last - 8) / 7;
-    }
-    count_slots(order, levels) // no tree has another order
 }
 
 pub fn order_ok(order: usize) -> bool
     ensures { result ≡ order_ok order }
 {
+    // with `matches!` (tried) the proof's last arm has no fact that the order is none of the three
     (order == 2) | ((order == 4) | (order == 8))
 }
 
@@ -92,17 +68,11 @@ pub fn room_under(order: usize, room: usize) -> usize
     requires { 0 < order }
     ensures { RoomUnder order room result }
 {
-    if room == 0 {
-        return 0;
+    let others = room.saturating_sub(1);
+    match order {
+        2 => others / 2,
+        4 => others / 4,
+        8 => others / 8,
+        _ => others / order,
     }
-    if order == 2 {
-        return (room - 1) / 2;
-    }
-    if order == 4 {
-        return (room - 1) / 4;
-    }
-    if order == 8 {
-        return (room - 1) / 8;
-    }
-    (room - 1) / order
 }

@@ -1,12 +1,13 @@
 // One scan of a node, over the lent words. A node is named by the number of its first slot.
-ghost use Rattle.std.specs.Prelude.{◌≡◌, ◌<◌, ◌≤◌};
+ghost use Rattle.std.specs.Prelude.{◌≡◌, ◌<◌, ◌≤◌, IfSome};
+ghost use Rattle.std.specs.Option.{unwrap_or};
 ghost use Rattle.tree_model.specs.Node.{least_count, lowest, sum_counts};
 ghost use Rattle.tree_model.specs.Words.{node_of};
 ghost use Rattle.tree_model.specs.Damage.{slot_ok, node_ok};
 ghost use Rattle.tree_model.specs.Calls.{slot_limit};
-ghost use Rattle.tree_node.specs.Look.{turn_or, least_or, low_or, Led, FirstFilled, NodeIn};
+ghost use Rattle.tree_node.specs.Look.{turn_or, least_in, low_in, Led, FirstFilled, NodeIn};
 
-use crate::full::{few_eight, few_four, few_two, full_low};
+use crate::full::{full, full_low};
 use crate::slot::slot_at;
 use strip::{is_blank, turn_of};
 use tree_model::Slot;
@@ -21,13 +22,11 @@ fn slot_ok(a: Slot, room: usize) -> bool
     requires { room ≤ slot_limit }
     ensures { result ≡ slot_ok room a }
 {
-    let element = a.element;
-    let blank = is_blank(element);
-    let count = a.count as usize;
-    (count <= room + 1) & ((count != 0) | blank)
+    (a.count as usize <= room + 1) & ((a.count != 0) | is_blank(a.element))
 }
 
-// Whether no slot of the node is damaged, and the chosen place.
+// Whether no slot of the node is damaged, and the chosen place. No option: `look_least` and `look_low` promise the place of a damaged node
+// too, and `tree_plan` reads it.
 #[derive(Clone, Copy)]
 pub struct Look {
     pub ok: bool,
@@ -44,8 +43,7 @@ pub fn look_least(s: &[u32], at: usize, order: usize, room: usize) -> Look
     let mut ok = true;
     let mut best = 0;
     let mut few: u64 = 4294967296;
-    let mut j = 0;
-    while j < order && j < ORDER_LIMIT {
+    for j in 0..order.min(ORDER_LIMIT) {
         let a = slot_at(s, at + j);
         ok = ok & slot_ok(a, room);
         let c = a.count as u64;
@@ -53,7 +51,6 @@ pub fn look_least(s: &[u32], at: usize, order: usize, room: usize) -> Look
             best = j;
             few = c;
         }
-        j += 1;
     }
     Look { ok, place: best }
 }
@@ -63,13 +60,13 @@ fn turn_or(a: Slot) -> u64
     ensures { result ≡ turn_or a }
 {
     if a.count == 0 {
-        return 18446744073709551615;
+        return u64::MAX;
     }
-    let element = a.element;
-    turn_of(element)
+    turn_of(a.element)
 }
 
-// The place of the lowest turn, leftmost on a tie; the order where no turn is below the highest.
+// The place of the lowest turn, leftmost on a tie; the order where no turn is below the highest. The loop of `look_least` with another key,
+// and not one loop for both: an edit of `scan_bundle_1` names a mistake in each.
 fn look_each(s: &[u32], at: usize, order: usize, room: usize) -> Look
     requires { NodeIn order at s.now × (order ≤ 8) × (room ≤ slot_limit) }
     ensures whole { result.ok ≡ node_ok room (node_of order s.now at) }
@@ -78,9 +75,8 @@ fn look_each(s: &[u32], at: usize, order: usize, room: usize) -> Look
 {
     let mut ok = true;
     let mut best = order;
-    let mut low: u64 = 18446744073709551615;
-    let mut j = 0;
-    while j < order && j < ORDER_LIMIT {
+    let mut low = u64::MAX;
+    for j in 0..order.min(ORDER_LIMIT) {
         let a = slot_at(s, at + j);
         ok = ok & slot_ok(a, room);
         let k = turn_or(a);
@@ -88,12 +84,12 @@ fn look_each(s: &[u32], at: usize, order: usize, room: usize) -> Look
             best = j;
             low = k;
         }
-        j += 1;
     }
     Look { ok, place: best }
 }
 
-// .. in a node of four slots: two pairs are compared, then the winners. On a tie the left one stays, so that the leftmost wins.
+// .. in a node of four slots: two pairs are compared, then the winners. On a tie the left one stays, so that the leftmost wins. Not by
+// `full::four`: the edits `scan_bundle_1`, `scan_bundle_2` and `four_second_pair` name mistakes in this function.
 fn look_four(s: &[u32], at: usize, room: usize) -> Look
     requires { NodeIn 4 at s.now × (room ≤ slot_limit) }
     ensures whole { result.ok ≡ node_ok room (node_of 4 s.now at) }
@@ -123,7 +119,7 @@ fn look_four(s: &[u32], at: usize, room: usize) -> Look
         best = right;
         low = high;
     }
-    if low == 18446744073709551615 {
+    if low == u64::MAX {
         best = 4;
     }
     Look { ok, place: best }
@@ -142,20 +138,17 @@ fn look_turns(s: &[u32], at: usize, order: usize, room: usize) -> Look
     look_each(s, at, order, room)
 }
 
-// The first occupied place; the order where all are empty.
-fn first_filled(s: &[u32], at: usize, order: usize) -> usize
+// The first occupied place.
+fn first_filled(s: &[u32], at: usize, order: usize) -> Option<usize>
     requires { NodeIn order at s.now }
-    ensures { FirstFilled (node_of order s.now at) result }
+    ensures { FirstFilled (node_of order s.now at) (unwrap_or result order) }
 {
-    let mut j = 0;
-    while j < order {
-        let a = slot_at(s, at + j);
-        if a.count != 0 {
-            return j;
+    for j in 0..order {
+        if slot_at(s, at + j).count != 0 {
+            return Some(j);
         }
-        j += 1;
     }
-    order
+    None
 }
 
 // The place of the occupied slot of lowest rank, of those of that rank the one of lowest tag, leftmost on a tie of both; the order where
@@ -167,14 +160,12 @@ fn look_any(s: &[u32], at: usize, order: usize, room: usize) -> Look
     ensures within { result.place ≤ order }
 {
     let v = look_turns(s, at, order, room);
-    let place = v.place;
-    let ok = v.ok;
-    if place == order {
+    if v.place == order {
         // nothing is here, or an element of the highest turn, which an empty slot has too
-        let first = first_filled(s, at, order);
-        return Look { ok, place: first };
+        let first = first_filled(s, at, order).unwrap_or(order);
+        return Look { place: first, ..v };
     }
-    Look { ok, place }
+    v
 }
 
 // .. in a full node first
@@ -184,58 +175,36 @@ pub fn look_low(s: &[u32], at: usize, order: usize, room: usize) -> Look
     ensures place { result.place ≡ lowest (node_of order s.now at) }
     ensures within { result.place ≤ order }
 {
-    let place = full_low(s, at, order, room);
-    if place != order {
+    if let Some(place) = full_low(s, at, order, room) {
         return Look { ok: true, place };
     }
     look_any(s, at, order, room)
 }
 
-// ---- the same as one number, for who goes on in a node that holds something: the order stands for a damaged node too
+// ---- who goes on, in a node that is not damaged: the place of the element that leaves first; none where nothing is held too
 
-pub fn find_low(s: &[u32], at: usize, order: usize, room: usize) -> usize
+pub fn find_low(s: &[u32], at: usize, order: usize, room: usize) -> Option<usize>
     requires { NodeIn order at s.now × (order ≤ 8) × (room ≤ slot_limit) }
-    ensures place { result ≡ low_or order room (node_of order s.now at) }
-    ensures within { result ≤ order }
+    ensures place { result ≡ low_in room (node_of order s.now at) }
+    ensures within { IfSome result (λ p. p < order) }
 {
-    let place = full_low(s, at, order, room);
-    if place != order {
-        return place;
+    if let Some(place) = full_low(s, at, order, room) {
+        return Some(place);
     }
     let v = look_any(s, at, order, room);
-    if v.ok {
-        return v.place;
-    }
-    order
+    (v.ok & (v.place < order)).then_some(v.place)
 }
 
-pub fn find_least(s: &[u32], at: usize, order: usize, room: usize) -> usize
+// .. and the place of the smallest count
+pub fn find_least(s: &[u32], at: usize, order: usize, room: usize) -> Option<usize>
     requires { NodeIn order at s.now × (order ≤ 8) × (room ≤ slot_limit) }
-    ensures { result ≡ least_or order room (node_of order s.now at) }
+    ensures { result ≡ least_in room (node_of order s.now at) }
 {
-    if order == 4 {
-        let w = few_four(s, at, 0);
-        if w.most as usize <= room {
-            return w.place;
-        }
-    }
-    if order == 2 {
-        let w = few_two(s, at, 0);
-        if w.most as usize <= room {
-            return w.place;
-        }
-    }
-    if order == 8 {
-        let w = few_eight(s, at);
-        if w.most as usize <= room {
-            return w.place;
-        }
+    if let Some(w) = full(s, at, order, room, &|a: Slot| a.count as u64) {
+        return Some(w.place);
     }
     let v = look_least(s, at, order, room);
-    if v.ok {
-        return v.place;
-    }
-    order
+    v.ok.then_some(v.place)
 }
 
 // Whether no slot of a node is damaged, with room for so many below each.
@@ -244,10 +213,8 @@ pub fn node_ok(s: &[u32], at: usize, order: usize, room: usize) -> bool
     ensures { result ≡ node_ok room (node_of order s.now at) }
 {
     let mut ok = true;
-    let mut j = 0;
-    while j < order {
+    for j in 0..order {
         ok = ok & slot_ok(slot_at(s, at + j), room);
-        j += 1;
     }
     ok
 }
@@ -258,11 +225,8 @@ pub fn sum_counts(s: &[u32], at: usize, order: usize) -> usize
     ensures { result ≡ sum_counts (node_of order s.now at) }
 {
     let mut sum: usize = 0;
-    let mut j = 0;
-    while j < order {
-        let a = slot_at(s, at + j);
-        sum += a.count as usize;
-        j += 1;
+    for j in 0..order {
+        sum += slot_at(s, at + j).count as usize;
     }
     sum
 }

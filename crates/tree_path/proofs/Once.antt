@@ -1,12 +1,13 @@
 -- A level tested on the way down and written on the way back.
-use Rattle.laws.specs.Prelude.{Bool, Element, List, ◌&&◌, ◌*◌, ◌+◌, ◌-◌, ◌/◌, ◌<◌, ◌∙◌, ◌≡◌, ◌≤◌, add-one, ap, ap₂, arith, blank, cond, false, key, le-leb, le-ltb, leb, length, lt-leb, lt-ltb, ltb, mul-le-mul_right, not, not-false, not-true, refl, subst, suc, sym, true, zero, ℕ}
+use Rattle.laws.specs.Prelude.{Bool, Element, List, ◌&&◌, ◌*◌, ◌+◌, ◌-◌, ◌/◌, ◌<◌, ◌∙◌, ◌≡◌, ◌≤◌, add-one, ap, ap₂, arith, blank, cond, false, key, le-leb, leb, length, lt-leb, lt-ltb, ltb, mul-le-mul_right, not, not-false, not-true, refl, subst, suc, sym, true, zero, ℕ}
+use Rattle.std.specs.Prelude.{None, Some}
 use native.Mathlib.Nat.{mul-le-mul}
 use Rattle.tree_node.proofs.Under.{under-div}
 use Rattle.tree_node.proofs.Scans.{low-found}
 use Rattle.tree_node.proofs.Steps.{below-some, lift-ends, lift-reads, move-put, move-swap, move-take, put_first, put_full, put-test, some-test, step-put, step-swap, step-take, swap_ends, swap-lifts, swap-stays, take_ends, take-lifts}
 use Rattle.tree_node.specs.Room.{child_of, lift_ok}
-use Rattle.tree_node.proofs.Winners.{least-or-off, least-or-place, low-or-place, low-or-test}
-use Rattle.tree_node.specs.Look.{least_or, low_or, NodeIn}
+use Rattle.tree_node.proofs.Winners.{least-in-none, least-in-some, low-in-none, low-in-place, low-in-some}
+use Rattle.tree_node.specs.Look.{least_in, low_in, NodeIn}
 use Rattle.tree_model.proofs.Laws.{apply-write, fine-here, op-work, path-none, place_here, rest-here, room-deep, words-none, write-here}
 use Rattle.tree_model.specs.Prelude.{apply_words, has_some, is_nothing, keep, least_count, level_of, levels_of, low, lowest, move, node_move, node_of, node_ok, pass, path_ok, rest_words, room, slot_limit, slot_of, slot_words, step_ok, step_words, top, under, work, work_ok, write}
 use Rattle.tree_model.specs.declared.Move.{Move}
@@ -16,9 +17,6 @@ use Rattle.tree_model.specs.declared.Slot.{Slot}
 use Rattle.tree_model.specs.declared.Work.{Work}
 use Rattle.tree_path.proofs.Down.{Level, level-of, not-zero, size_step, step_in}
 use Rattle.tree_path.specs.Down.{Carried, Looked, Placed, Stands}
-
-pub below-ne : (p m : ℕ) → (p ≡ m → ⊥) → p ≤ m → p < m
-below-ne p m h l = omega arith
 
 -- ---- the step of the node at slot `at`, and of the same node in its level
 abbrev pub tested : ℕ → ℕ → List ℕ → Op → ℕ → Bool
@@ -208,23 +206,23 @@ module _ {m k at cap : ℕ} {ws : List ℕ} (st : Stands m k at cap ws) where
         sym (step-put m (k - 1) (Put x) (node_of m ws at) (child_of m ((at + 1) * m) ws) x cap (t && leb a.count cap) refl
         (record { within = λ h. st.fits; above = λ h. omega (arith, st.fits) }) (omega (arith, st.fits, numbers.limit)) (put-test m ws at j a inside read least cap t whole))
 
-  module _ (x : Element) (j : ℕ) (found : j ≡ least_or m cap (node_of m ws at)) where
+  module _ (x : Element) where
     -- the node is damaged
-    pub put-off : j ≡ m → Carried m k at (Put x) ws false ws
+    pub put-off : None ≡ least_in cap (node_of m ws at) → Carried m k at (Put x) ws false ws
     unfolding is_nothing
-    put-off e =
-        let z = least-or-off m ws at cap j numbers.order found e in
+    put-off found =
+        let z = least-in-none m ws at cap numbers.order found in
         off st (Put x) refl (put-tested x (least_count (node_of m ws at)) false z.0 refl z.1 (slot_of ws (at + least_count (node_of m ws at))) refl)
 
-    module _ (on : j ≡ m → ⊥) where
+    module _ (j : ℕ) (found : Some j ≡ least_in cap (node_of m ws at)) where
       put_whole : true ≡ node_ok cap (node_of m ws at)
-      put_whole = (least-or-place m ws at cap j numbers.order found on).0
+      put_whole = (least-in-some m ws at cap numbers.order j found).0
 
       put-least : j ≡ least_count (node_of m ws at)
-      put-least = (least-or-place m ws at cap j numbers.order found on).1.0
+      put-least = (least-in-some m ws at cap numbers.order j found).1.0
 
       pub put-inside : j < m
-      put-inside = (least-or-place m ws at cap j numbers.order found on).1.1
+      put-inside = (least-in-some m ws at cap numbers.order j found).1.1
 
       module _ (a : Slot) (read : a ≡ slot_of ws (at + j)) where
         here-tested : tested m at ws (Put x) (k - 1) ≡ leb a.count cap
@@ -333,71 +331,69 @@ module _ {m k at j cap : ℕ} {ws : List ℕ} (seen : Looked m k at j cap ws) wh
       pub lift-stands : Stands m (k - 1) g cap' ws
       lift-stands = stands-below st lift-deep j seen.inside
 
-      module _ (p : ℕ) (found : p ≡ low_or m cap' (node_of m ws g)) (most : p ≤ m) where
-        lift-tested : ltb p m ≡ lifted
-        lift-tested =
-            lift-reads m ws at j a seen.inside read f seen.place (k - 1) (ltb p m) own-some h
-            (low-or-test m ws g cap' p found
-            ∙ ap₂ (λ (u i : ℕ). node_ok u (node_of m ws i) && has_some (node_of m ws i)) lift-stands.fits child-at)
+      lift-tested : (t : Bool) → t ≡ (node_ok cap' (node_of m ws g) && has_some (node_of m ws g)) → t ≡ lifted
+      lift-tested t e =
+          lift-reads m ws at j a seen.inside read f seen.place (k - 1) t own-some h
+          (e ∙ ap₂ (λ (u i : ℕ). node_ok u (node_of m ws i) && has_some (node_of m ws i)) lift-stands.fits child-at)
 
-        module _ (off-end : p ≡ m) where
-          tests-off : false ≡ lifted
-          tests-off = sym (le-ltb p m (omega arith)) ∙ lift-tested
+      module _ (none : None ≡ low_in cap' (node_of m ws g)) where
+        tests-off : false ≡ lifted
+        tests-off = lift-tested false (low-in-none m ws g cap' none)
 
-          pub take-off : Carried m k at Take ws false ws
-          unfolding is_nothing
-          take-off = off st Take refl (via-take false tests-off)
+        pub take-off : Carried m k at Take ws false ws
+        unfolding is_nothing
+        take-off = off st Take refl (via-take false tests-off)
 
-          pub swap-off : (x : Element) → Carried m k at (Swap x) ws false ws
-          unfolding is_nothing
-          swap-off x = off st (Swap x) refl (via-swap x false tests-off)
+        pub swap-off : (x : Element) → Carried m k at (Swap x) ws false ws
+        unfolding is_nothing
+        swap-off x = off st (Swap x) refl (via-swap x false tests-off)
 
-        module _ (no : p ≡ m → ⊥) where
-          inside : p < m
-          inside = below-ne p m no most
+      module _ (p : ℕ) (found : Some p ≡ low_in cap' (node_of m ws g)) where
+        inside : p < m
+        inside = (low-in-place m ws g cap' p found).1.1
 
-          tests-on : true ≡ lifted
-          tests-on = sym (lt-ltb p m inside) ∙ lift-tested
+        tests-on : true ≡ lifted
+        tests-on = lift-tested true (low-in-some m ws g cap' p found).0
 
-          lowest-is : p ≡ lowest (node_of m ws g)
-          lowest-is = (low-or-place m ws g cap' p found inside).1
+        lowest-is : p ≡ lowest (node_of m ws g)
+        lowest-is = (low-in-place m ws g cap' p found).1.0
 
-          pub lift-looked : Looked m (k - 1) g p cap' ws
-          lift-looked = record { stands = lift-stands; whole = (low-or-place m ws g cap' p found inside).0; place = lowest-is; inside = inside }
+        pub lift-looked : Looked m (k - 1) g p cap' ws
+        lift-looked = record { stands = lift-stands; whole = (low-in-place m ws g cap' p found).0; place = lowest-is; inside = inside }
 
-          module _ (e : Slot) (read_low : e ≡ slot_of ws (g + p)) where
-            up_is : e.element ≡ low (child_of m f ws j)
-            up_is = low-found m ws g p e lowest-is inside read_low ∙ ap (λ (i : ℕ). low (node_of m ws i)) child-at
+        module _ (e : Slot) (read_low : e ≡ slot_of ws (g + p)) where
+          up_is : e.element ≡ low (child_of m f ws j)
+          up_is = low-found m ws g p e lowest-is inside read_low ∙ ap (λ (i : ℕ). low (node_of m ws i)) child-at
 
-            module _ (q : Bool) (r : List ℕ) (d : Carried m (k - 1) g Take ws q r) where
-              take-moved : move j e.element (a.count - 1) Take ≡ moved m at ws Take
-              take-moved = move-take m Take at f ws _ refl (take-lifts m ws at j a seen.inside read f seen.place e.element _ h up_is refl)
+          module _ (q : Bool) (r : List ℕ) (d : Carried m (k - 1) g Take ws q r) where
+            take-moved : move j e.element (a.count - 1) Take ≡ moved m at ws Take
+            take-moved = move-take m Take at f ws _ refl (take-lifts m ws at j a seen.inside read f seen.place e.element _ h up_is refl)
 
-              pub take-fails : not q ≡ true → Carried m k at Take ws false r
+            pub take-fails : not q ≡ true → Carried m k at Take ws false r
+            unfolding is_nothing
+            take-fails n = fails st Take refl (via-take true tests-on) (move j e.element (a.count - 1) Take) take-moved q r d n
+
+            pub take-passes : not q ≡ false → (r' : List ℕ) → r' ≡ write r (at + j) (record { element = e.element; count = a.count - 1 }) → Carried m k at Take ws true r'
+            unfolding is_nothing
+            take-passes n r' w = passes st Take refl (via-take true tests-on) (move j e.element (a.count - 1) Take) take-moved q r d n r' w
+
+          module _ (x : Element) (s : Bool) (is-lower : s ≡ ltb (key e.element) (key x)) where
+            pub swap-keeps : not s ≡ true → (r : List ℕ) → r ≡ write ws (at + j) (record { element = x; count = a.count }) → Carried m k at (Swap x) ws true r
+            unfolding is_nothing
+            swap-keeps n r w =
+                stops st (Swap x) refl (via-swap x true tests-on) (move j x a.count Nothing)
+                (move-swap m (Swap x) at f ws _ x refl (swap-stays m ws at j a seen.inside read f seen.place x e.element s _ h up_is is-lower (not-true s n) refl)) refl r w
+
+            module _ (yes' : not s ≡ false) (q : Bool) (r : List ℕ) (d : Carried m (k - 1) g (Swap x) ws q r) where
+              swap-moved : move j e.element a.count (Swap x) ≡ moved m at ws (Swap x)
+              swap-moved =
+                  move-swap m (Swap x) at f ws _ x refl
+                  (swap-lifts m ws at j a seen.inside read f seen.place x e.element s _ h up_is is-lower (not-false s yes') refl)
+
+              pub swap-fails : not q ≡ true → Carried m k at (Swap x) ws false r
               unfolding is_nothing
-              take-fails n = fails st Take refl (via-take true tests-on) (move j e.element (a.count - 1) Take) take-moved q r d n
+              swap-fails n = fails st (Swap x) refl (via-swap x true tests-on) (move j e.element a.count (Swap x)) swap-moved q r d n
 
-              pub take-passes : not q ≡ false → (r' : List ℕ) → r' ≡ write r (at + j) (record { element = e.element; count = a.count - 1 }) → Carried m k at Take ws true r'
+              pub swap-passes : not q ≡ false → (r' : List ℕ) → r' ≡ write r (at + j) (record { element = e.element; count = a.count }) → Carried m k at (Swap x) ws true r'
               unfolding is_nothing
-              take-passes n r' w = passes st Take refl (via-take true tests-on) (move j e.element (a.count - 1) Take) take-moved q r d n r' w
-
-            module _ (x : Element) (s : Bool) (is-lower : s ≡ ltb (key e.element) (key x)) where
-              pub swap-keeps : not s ≡ true → (r : List ℕ) → r ≡ write ws (at + j) (record { element = x; count = a.count }) → Carried m k at (Swap x) ws true r
-              unfolding is_nothing
-              swap-keeps n r w =
-                  stops st (Swap x) refl (via-swap x true tests-on) (move j x a.count Nothing)
-                  (move-swap m (Swap x) at f ws _ x refl (swap-stays m ws at j a seen.inside read f seen.place x e.element s _ h up_is is-lower (not-true s n) refl)) refl r w
-
-              module _ (yes' : not s ≡ false) (q : Bool) (r : List ℕ) (d : Carried m (k - 1) g (Swap x) ws q r) where
-                swap-moved : move j e.element a.count (Swap x) ≡ moved m at ws (Swap x)
-                swap-moved =
-                    move-swap m (Swap x) at f ws _ x refl
-                    (swap-lifts m ws at j a seen.inside read f seen.place x e.element s _ h up_is is-lower (not-false s yes') refl)
-
-                pub swap-fails : not q ≡ true → Carried m k at (Swap x) ws false r
-                unfolding is_nothing
-                swap-fails n = fails st (Swap x) refl (via-swap x true tests-on) (move j e.element a.count (Swap x)) swap-moved q r d n
-
-                pub swap-passes : not q ≡ false → (r' : List ℕ) → r' ≡ write r (at + j) (record { element = e.element; count = a.count }) → Carried m k at (Swap x) ws true r'
-                unfolding is_nothing
-                swap-passes n r' w = passes st (Swap x) refl (via-swap x true tests-on) (move j e.element a.count (Swap x)) swap-moved q r d n r' w
+              swap-passes n r' w = passes st (Swap x) refl (via-swap x true tests-on) (move j e.element a.count (Swap x)) swap-moved q r d n r' w

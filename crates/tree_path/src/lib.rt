@@ -11,16 +11,16 @@ use tree_node::slot::{slot_at, write_slot};
 
 // All three test on the way down and write on the way back, so that every test comes before the first write. They answer whether the
 // whole path is in order; where it is not, nothing is written.
+// The levels go by recursion, and `take` and `swap` stand apart, since docs name three functions that each recurse into the child node.
 // A node is named by its first slot: all levels above it are whole, so that the node below slot i begins at slot (i + 1) * order.
 // `cap` is the room below a slot of this level.
 pub fn put(s: &mut [u32], order: usize, left: usize, at: usize, cap: usize, x: Element) -> bool
     requires { Stands order left at cap s.old }
     ensures { Carried order left at (Op.Put x) s.old result s.new }
 {
-    let j = find_least(s, at, order, cap);
-    if j == order {
+    let Some(j) = find_least(s, at, order, cap) else {
         return false;
-    }
+    };
     let i = at + j;
     let a = slot_at(s, i);
     let count = a.count;
@@ -28,11 +28,14 @@ pub fn put(s: &mut [u32], order: usize, left: usize, at: usize, cap: usize, x: E
         return false;
     }
     if count == 0 {
-        let new = Slot {
-            element: x,
-            count: 1,
-        };
-        write_slot(s, i, new);
+        write_slot(
+            s,
+            i,
+            Slot {
+                element: x,
+                count: 1,
+            },
+        );
         return true;
     }
     let y = a.element;
@@ -43,12 +46,14 @@ pub fn put(s: &mut [u32], order: usize, left: usize, at: usize, cap: usize, x: E
     if !put(s, order, left - 1, below, under, down) {
         return false;
     }
-    let more = count + 1;
-    let kept = Slot {
-        element: up,
-        count: more,
-    };
-    write_slot(s, i, kept);
+    write_slot(
+        s,
+        i,
+        Slot {
+            element: up,
+            count: count + 1,
+        },
+    );
     true
 }
 
@@ -61,31 +66,33 @@ pub fn take(s: &mut [u32], order: usize, left: usize, at: usize, j: usize, cap: 
     let a = slot_at(s, i);
     let count = a.count;
     if count <= 1 {
-        let none = no_element();
-        let gone = Slot {
-            element: none,
-            count: 0,
-        };
-        write_slot(s, i, gone);
+        write_slot(
+            s,
+            i,
+            Slot {
+                element: no_element(),
+                count: 0,
+            },
+        );
         return true;
     }
     let below = (i + 1) * order;
     let under = (cap - 1) / order;
-    let p = find_low(s, below, order, under);
-    if p == order {
+    let Some(p) = find_low(s, below, order, under) else {
         return false;
-    }
-    let k = slot_at(s, below + p);
-    let up = k.element;
+    };
+    let up = slot_at(s, below + p).element;
     if !take(s, order, left - 1, below, p, under) {
         return false;
     }
-    let fewer = count - 1;
-    let kept = Slot {
-        element: up,
-        count: fewer,
-    };
-    write_slot(s, i, kept);
+    write_slot(
+        s,
+        i,
+        Slot {
+            element: up,
+            count: count - 1,
+        },
+    );
     true
 }
 
@@ -105,27 +112,22 @@ pub fn swap(
     let a = slot_at(s, i);
     let count = a.count;
     if count <= 1 {
-        let new = Slot { element: x, count };
-        write_slot(s, i, new);
+        write_slot(s, i, Slot { element: x, count });
         return true;
     }
     let below = (i + 1) * order;
     let under = (cap - 1) / order;
-    let p = find_low(s, below, order, under);
-    if p == order {
+    let Some(p) = find_low(s, below, order, under) else {
         return false;
-    }
-    let k = slot_at(s, below + p);
-    let up = k.element;
+    };
+    let up = slot_at(s, below + p).element;
     if !lower(up, x) {
-        let new = Slot { element: x, count };
-        write_slot(s, i, new);
+        write_slot(s, i, Slot { element: x, count });
         return true;
     }
     if !swap(s, order, left - 1, below, p, under, x) {
         return false;
     }
-    let kept = Slot { element: up, count };
-    write_slot(s, i, kept);
+    write_slot(s, i, Slot { element: up, count });
     true
 }

@@ -1,11 +1,15 @@
 -- What the code of a planned step has read makes the choice, the test and the step that the definitions say.
-use Rattle.laws.specs.Prelude.{Bool, Element, List, ◌&&◌, ◌*◌, ◌+◌, ◌-◌, ◌<◌, ◌||◌, ◌∙◌, ◌≡◌, ◌≤◌, add-one, and_left, and_right, and-unit, ap, ap₂, arith, blank, cond, eq-eqb, eqb, eqb-true, false, key, le-leb, le-ltb, leb, leb-false, leb-true, length, lt-leb, lt-ltb, ltb, mul-le-mul_right, ne_eqb, not, not-false, not-true, pred, refl, sub-one, subst, suc, sym, true, true≢false, ℕ}
+use Rattle.std.proofs.Common.{None, Option, Some, IfSome, is_some}
+use Rattle.std.proofs.lemmas.Option.{IfSome_then}
+use Rattle.std.specs.Bool.{then_some}
+use Rattle.tree_plan.specs.declared.Choice.{Choice}
+use Rattle.laws.specs.Prelude.{Bool, Element, List, ◌&&◌, ◌*◌, ◌+◌, ◌-◌, ◌<◌, ◌||◌, ◌∙◌, ◌≡◌, ◌≤◌, and_left, and-unit, ap, arith, blank, cond, eq-eqb, eqb, eqb-true, false, key, le-ltb, leb, leb-false, leb-true, length, lt-leb, lt-ltb, ltb, mul-le-mul_right, not, pred, refl, sub-one, subst, suc, sym, true, true≢false, ℕ}
 use Rattle.tree_node.proofs.Steps.{lift-ends, lift-reads, move-nothing, move-put, move-swap, move-take, put_first, put_full, put-test, some-test, step-nothing, step-swap, step-take, swap_ends, swap-lifts, swap-stays, take_ends, take-lifts}
 use Rattle.tree_plan.specs.Planning.{Chosen, lifts_ok, Planned, PlanIn, put_from, swap_from, take_from}
 use Rattle.tree_node.specs.Room.{child_of, ChildrenIn, lift_ok, low_below}
 use Rattle.tree_node.specs.Look.{NodeIn}
 use Rattle.tree_model.proofs.Laws.{all-slot_at, every-all, node-length, node-slot, slot-limit}
-use Rattle.tree_model.specs.Prelude.{has_room, has_some, is_empty, keep, least_count, lifts, low, lowest, move, node_of, node_ok, pass, put_move, read_ok, room, slot_at, slot_limit, slot_of, slot_ok, step_ok, swap_move, take_move}
+use Rattle.tree_model.specs.Prelude.{has_room, has_some, is_empty, keep, least_count, lifts, low, lowest, move, node_of, node_ok, pass, put_move, read_ok, room, slot_at, slot_of, slot_ok, step_ok, swap_move, take_move}
 use Rattle.tree_model.specs.declared.Move.{Move}
 use Rattle.tree_model.specs.declared.Op.{Op}
 use Rattle.tree_model.specs.declared.Op.TheVariants.{Nothing, Put, Swap, Take}
@@ -15,20 +19,18 @@ use Rattle.tree_model.specs.declared.Slot.{Slot}
 pub child-in : (m f j : ℕ) (ws : List ℕ) → 0 < m → j < m → ChildrenIn m f ws → NodeIn m (f + j * m) ws
 child-in m f j ws h lt c = record { order = h; words = omega (arith, mul-le-mul_right m lt) }
 
--- ---- the choices, by what the scan of the node at slot i says: it is whole or not, and the place
+-- ---- a choice is made exactly where the test holds
+pub some-then : {A : Type 0} (t : Bool) (x : A) → is_some (then_some t x) ≡ t
+some-then true x = refl
+some-then false x = refl
+
+-- .. by what the scan of the node at slot i says: it is whole or not, and the place
 module _ (m i : ℕ) (ws : List ℕ) (r j : ℕ) (t : Bool) (whole : t ≡ node_ok r (node_of m ws i)) where
   abbrev nd : List Slot
   nd = node_of m ws i
 
-  module _ (a : Slot) (at_least_lem : j ≡ least_count nd) (inside : j < m) (read : a ≡ slot_of ws (i + j)) (limit : r ≤ slot_limit) where
-    pub least-order : (t && leb a.count r) ≡ (node_ok r nd && has_room r nd)
-    least-order = put-test m ws i j a inside read at_least_lem r t whole
-
-    pub least-chosen : (t && leb a.count r) ≡ true → Chosen m i ws (least_count nd) j a
-    least-chosen e = record { place = at_least_lem; inside = inside; read = read }
-
-    pub least-small : (t && leb a.count r) ≡ true → a.count ≤ slot_limit
-    least-small e = omega (arith, leb-true a.count r (and_right t (leb a.count r) e))
+  pub least-order : (a : Slot) (c : Choice) → j ≡ least_count nd → j < m → a ≡ slot_of ws (i + j) → is_some (then_some (t && leb a.count r) c) ≡ (node_ok r nd && has_room r nd)
+  least-order a c at_least_lem inside read = some-then (t && leb a.count r) c ∙ put-test m ws i j a inside read at_least_lem r t whole
 
   module _ (at_low : j ≡ lowest nd) where
     pub low-none : j ≡ m → false ≡ (node_ok r nd && has_some nd)
@@ -38,61 +40,24 @@ module _ (m i : ℕ) (ws : List ℕ) (r j : ℕ) (t : Bool) (whole : t ≡ node_
         go true = refl
         go false = refl
 
-    module _ (ne : j ≡ m → ⊥) (most : j ≤ m) where
-      pub low-order : t ≡ (node_ok r nd && has_some nd)
-      low-order = sym (and-unit t) ∙ ap (λ (s : Bool). t && s) (sym (lt-ltb j m (omega arith))) ∙ some-test m ws i j r t at_low whole
+    pub low-order : (c : Choice) → (j ≡ m → ⊥) → j ≤ m → is_some (then_some t c) ≡ (node_ok r nd && has_some nd)
+    low-order c ne most =
+        some-then t c ∙ sym (and-unit t) ∙ ap (λ (s : Bool). t && s) (sym (lt-ltb j m (omega arith))) ∙ some-test m ws i j r t at_low whole
 
-      pub low-chosen : (a : Slot) → a ≡ slot_of ws (i + j) → t ≡ true → Chosen m i ws (lowest nd) j a
-      low-chosen a read e = record { place = at_low; inside = omega arith; read = read }
+-- ---- the steps at a chosen slot that lift the lowest element of the node below
+module _ (j : ℕ) (a : Slot) (below : List Slot) (h : 1 < a.count) (up : Element) (is-low : up ≡ low below) where
+  pub take-lifted : (v : Move) → v ≡ move j up (a.count - 1) Take → v ≡ take_from j a below
+  unfolding take_from
+  take-lifted v e = rw (lt-leb a.count 1 h) (e ∙ ap (λ (u : Element). move j u (a.count - 1) Take) is-low)
 
--- ---- the steps at a chosen slot
-pub put-empty : (j : ℕ) (a : Slot) (x : Element) (v : Move) → a.count ≡ 0 → v ≡ move j x 1 Nothing → v ≡ put_from j a x
-unfolding put_from is_empty
-put-empty j a x v z e = rw (eq-eqb a.count 0 z) e
-
-pub put-over : (j : ℕ) (a : Slot) (x up down : Element) (v : Move) → (a.count ≡ 0 → ⊥) → up ≡ keep x a.element → down ≡ pass x a.element
-    → v ≡ move j up (a.count + 1) (Put down) → v ≡ put_from j a x
-unfolding put_from is_empty
-put-over j a x up down v n eu ed e =
-    rw (ne_eqb a.count 0 n)
-    (e ∙ ap₂ (λ (u d : Element). move j u (a.count + 1) (Put d)) eu ed ∙ ap (λ (k : ℕ). move j (keep x a.element) k (Put (pass x a.element))) (add-one a.count))
-
-module _ (r j : ℕ) (a : Slot) (below : List Slot) where
-  module _ (h : a.count ≤ 1) where
-    pub lift-last : (t : Bool) → t ≡ true → t ≡ lifts_ok r a below
-    unfolding lifts_ok
-    lift-last t e = rw (le-leb a.count 1 h) e
-
-    pub take_last : (b : Element) (v : Move) → b ≡ blank → v ≡ move j b 0 Nothing → v ≡ take_from j a below
-    unfolding take_from
-    take_last b v eb e = rw (le-leb a.count 1 h) (e ∙ ap (λ (b : Element). move j b 0 Nothing) eb)
-
-    pub swap-last : (x : Element) (v : Move) → v ≡ move j x a.count Nothing → v ≡ swap_from j a below x
+  module _ (x : Element) (s : Bool) (is-lower : s ≡ ltb (key up) (key x)) where
+    pub swap-lifted : (v : Move) → s ≡ true → v ≡ move j up a.count (Swap x) → v ≡ swap_from j a below x
     unfolding swap_from
-    swap-last x v e = rw (le-leb a.count 1 h) e
+    swap-lifted v y e = rw (lt-leb a.count 1 h, ← is-low, ← is-lower, y) e
 
-  module _ (h : 1 < a.count) (t : Bool) (tested : t ≡ (node_ok r below && has_some below)) where
-    pub lift-off : (b : Bool) → not t ≡ true → b ≡ false → b ≡ lifts_ok r a below
-    unfolding lifts_ok
-    lift-off b e eb = rw (lt-leb a.count 1 h, ← tested, not-true t e) eb
-
-    pub lift-on : (b : Bool) → not t ≡ false → b ≡ true → b ≡ lifts_ok r a below
-    unfolding lifts_ok
-    lift-on b e eb = rw (lt-leb a.count 1 h, ← tested, not-false t e) eb
-
-    module _ (up : Element) (is-low : up ≡ low below) where
-      pub take-lifted : (v : Move) → v ≡ move j up (a.count - 1) Take → v ≡ take_from j a below
-      unfolding take_from
-      take-lifted v e = rw (lt-leb a.count 1 h) (e ∙ ap (λ (u : Element). move j u (a.count - 1) Take) is-low)
-
-      module _ (x : Element) (s : Bool) (is-lower : s ≡ ltb (key up) (key x)) where
-        pub swap-lifted : (v : Move) → s ≡ true → v ≡ move j up a.count (Swap x) → v ≡ swap_from j a below x
-        unfolding swap_from
-        swap-lifted v y e = rw (lt-leb a.count 1 h, ← is-low, ← is-lower, y) e
-
-        pub swap-kept : (v : Move) → s ≡ false → v ≡ move j x a.count Nothing → v ≡ swap_from j a below x
-        unfolding swap_from
-        swap-kept v y e = rw (lt-leb a.count 1 h, ← is-low, ← is-lower, y) e
+    pub swap-kept : (v : Move) → s ≡ false → v ≡ move j x a.count Nothing → v ≡ swap_from j a below x
+    unfolding swap_from
+    swap-kept v y e = rw (lt-leb a.count 1 h, ← is-low, ← is-lower, y) e
 
 -- what a choice has read is what a take gives
 pub chosen-low : (m i : ℕ) (ws : List ℕ) (j : ℕ) (a : Slot) → Chosen m i ws (lowest (node_of m ws i)) j a → a.element ≡ low (node_of m ws i)
@@ -160,74 +125,64 @@ unfolding step_ok
 step-off m k o nd child e = rw e
 
 module _ (m i f r u : ℕ) (ws : List ℕ) where
-  pub planned-none : (o : Op) (t : Bool) (v : Move) → o ≡ Nothing → t ≡ true → v ≡ move m blank 0 Nothing → Planned m r u o i f ws t v
-  planned-none o t v e et ev k er eu = (et ∙ step-nothing m k o _ _ e, λ z. move-nothing m o i f ws v blank e refl ev)
+  abbrev node : List Slot
+  node = node_of m ws i
 
-  pub planned-as : (o o' : Op) (t : Bool) (v : Move) → o ≡ o' → Planned m r u o' i f ws t v → Planned m r u o i f ws t v
-  planned-as o o' t v e p = subst (λ (o : Op). Planned m r u o i f ws t v) (sym e) p
+  pub planned-none : (o : Op) (v : Move) → o ≡ Nothing → v ≡ move m blank 0 Nothing → Planned m r u o i f ws (Some v)
+  planned-none o v e ev k er eu = (step-nothing m k o _ _ e, move-nothing m o i f ws v blank e refl ev)
+
+  pub planned-as : (o o' : Op) (p : Option Move) → o ≡ o' → Planned m r u o' i f ws p → Planned m r u o i f ws p
+  planned-as o o' p e h = subst (λ (o : Op). Planned m r u o i f ws p) (sym e) h
 
   -- a node that is not in order
-  planned-off : (o : Op) (t b : Bool) (v : Move) → ((k : ℕ) → r ≡ room m k → t ≡ read_ok o (room m k) (node_of m ws i)) → not t ≡ true → b ≡ false
-      → Planned m r u o i f ws b v
-  planned-off o t b v read e eb k er eu =
-      (eb ∙ step-off m k o _ _ (sym (read k er) ∙ not-true t e), λ z. absurd (true≢false (sym z ∙ eb)))
+  planned-off : (o : Op) → ((k : ℕ) → r ≡ room m k → false ≡ read_ok o (room m k) node) → Planned m r u o i f ws None
+  planned-off o read k er eu = (step-off m k o _ _ (sym (read k er)), tt)
 
-  module _ (x : Element) (t : Bool) (tested : t ≡ (node_ok r (node_of m ws i) && has_room r (node_of m ws i))) where
-    put-read : (k : ℕ) → r ≡ room m k → t ≡ read_ok (Put x) (room m k) (node_of m ws i)
+  module _ (x : Element) where
+    put-read : (t : Bool) → t ≡ (node_ok r node && has_room r node) → (k : ℕ) → r ≡ room m k → t ≡ read_ok (Put x) (room m k) node
     unfolding read_ok
-    put-read k er = tested ∙ ap (λ (r : ℕ). node_ok r (node_of m ws i) && has_room r (node_of m ws i)) er
+    put-read t tested k er = tested ∙ ap (λ (r : ℕ). node_ok r node && has_room r node) er
 
-    pub put-planned-off : (b : Bool) (v : Move) → not t ≡ true → b ≡ false → Planned m r u (Put x) i f ws b v
-    put-planned-off b v e eb = planned-off (Put x) t b v put-read e eb
+    pub put-planned-off : false ≡ (node_ok r node && has_room r node) → Planned m r u (Put x) i f ws None
+    put-planned-off tested = planned-off (Put x) (put-read false tested)
 
-    pub put-planned : (b : Bool) (v : Move) (j : ℕ) (a : Slot) → not t ≡ false → (t ≡ true → Chosen m i ws (least_count (node_of m ws i)) j a)
-        → b ≡ true → v ≡ put_from j a x → Planned m r u (Put x) i f ws b v
+    pub put-planned : (v : Move) (j : ℕ) (a : Slot) → true ≡ (node_ok r node && has_room r node) → Chosen m i ws (least_count node) j a
+        → v ≡ put_from j a x → Planned m r u (Put x) i f ws (Some v)
     unfolding step_ok lifts
-    put-planned b v j a e ch eb ev k er eu =
-        let y : t ≡ true = not-false t e in (
-          eb ∙ rw (← put-read k er, y),
-          λ z. move-put m (Put x) i f ws v x refl (ev ∙ put-from m i f ws j a (ch y) x),
-        )
+    put-planned v j a tested ch ev k er eu = (rw (← put-read true tested k er), move-put m (Put x) i f ws v x refl (ev ∙ put-from m i f ws j a ch x))
 
-  module _ (t : Bool) (tested : t ≡ (node_ok r (node_of m ws i) && has_some (node_of m ws i))) where
-    low_read : (o : Op) → ((n : ℕ) → read_ok o n (node_of m ws i) ≡ (node_ok n (node_of m ws i) && has_some (node_of m ws i))) → (k : ℕ) → r ≡ room m k
-        → t ≡ read_ok o (room m k) (node_of m ws i)
-    low_read o h k er = tested ∙ ap (λ (r : ℕ). node_ok r (node_of m ws i) && has_some (node_of m ws i)) er ∙ sym (h (room m k))
+  low_read : (t : Bool) → t ≡ (node_ok r node && has_some node) → (o : Op) → ((n : ℕ) → read_ok o n node ≡ (node_ok n node && has_some node)) → (k : ℕ) → r ≡ room m k
+      → t ≡ read_ok o (room m k) node
+  low_read t tested o h k er = tested ∙ ap (λ (r : ℕ). node_ok r node && has_some node) er ∙ sym (h (room m k))
 
-    pub take-planned-off : (b : Bool) (v : Move) → not t ≡ true → b ≡ false → Planned m r u Take i f ws b v
-    unfolding read_ok
-    take-planned-off b v e eb = planned-off Take t b v (low_read Take (λ n. refl)) e eb
+  pub take-planned-off : false ≡ (node_ok r node && has_some node) → Planned m r u Take i f ws None
+  unfolding read_ok
+  take-planned-off tested = planned-off Take (low_read false tested Take (λ n. refl))
 
-    pub swap-planned-off : (x : Element) (b : Bool) (v : Move) → not t ≡ true → b ≡ false → Planned m r u (Swap x) i f ws b v
-    unfolding read_ok
-    swap-planned-off x b v e eb = planned-off (Swap x) t b v (low_read (Swap x) (λ n. refl)) e eb
+  pub swap-planned-off : (x : Element) → false ≡ (node_ok r node && has_some node) → Planned m r u (Swap x) i f ws None
+  unfolding read_ok
+  swap-planned-off x tested = planned-off (Swap x) (low_read false tested (Swap x) (λ n. refl))
 
-    module _ (e : not t ≡ false) (j : ℕ) (a : Slot) (chosen : t ≡ true → Chosen m i ws (lowest (node_of m ws i)) j a) where
-      ch : Chosen m i ws (lowest (node_of m ws i)) j a
-      ch = chosen (not-false t e)
+  module _ (tested : true ≡ (node_ok r node && has_some node)) (j : ℕ) (a : Slot) (ch : Chosen m i ws (lowest node) j a) where
+    -- the node below, where the step reads it
+    pub below_in : PlanIn m i f r u ws → 1 < a.count → NodeIn m (f + j * m) ws
+    below_in p h =
+        child-in m f j ws p.node.order ch.inside (p.children (room-some m i f ws j a ch r (and_left (node_ok r node) (has_some node) (sym tested)) h))
 
-      order-true : (node_ok r (node_of m ws i) && has_some (node_of m ws i)) ≡ true
-      order-true = sym tested ∙ not-false t e
+    lifted : (t : Bool) → t ≡ lifts_ok u a (node_of m ws (f + j * m)) → (k : ℕ) → r ≡ room m k → u ≡ room m (pred k) → t ≡ lift_ok m k node (child_of m f ws)
+    lifted t eb k er eu =
+        eb ∙ ap (λ (n : ℕ). lifts_ok n a (node_of m ws (f + j * m))) eu
+        ∙ lift-from m i f ws j a ch k (ap (λ (n : ℕ). node_ok n node && has_some node) (sym er) ∙ sym tested)
 
-      -- the node below, where the step reads it
-      pub below_in : PlanIn m i f r u ws → 1 < a.count → NodeIn m (f + j * m) ws
-      below_in p h =
-          child-in m f j ws p.node.order ch.inside (p.children (room-some m i f ws j a ch r (and_left (node_ok r (node_of m ws i)) (has_some (node_of m ws i)) order-true) h))
+    pub take-planned : (p : Option Move) → is_some p ≡ lifts_ok u a (node_of m ws (f + j * m)) → IfSome p (λ v. v ≡ take_from j a (node_of m ws (f + j * m))) → Planned m r u Take i f ws p
+    take-planned p eb ev k er eu = (
+      step-take m k Take _ _ (is_some p) refl (lifted (is_some p) eb k er eu),
+      IfSome_then p ev (λ v e. move-take m Take i f ws v refl (e ∙ take-from m i f ws j a ch)),
+    )
 
-      lifted : (b : Bool) → b ≡ lifts_ok u a (node_of m ws (f + j * m)) → (k : ℕ) → r ≡ room m k → u ≡ room m (pred k) → b ≡ lift_ok m k (node_of m ws i) (child_of m f ws)
-      lifted b eb k er eu =
-          eb ∙ ap (λ (n : ℕ). lifts_ok n a (node_of m ws (f + j * m))) eu
-          ∙ lift-from m i f ws j a ch k (ap (λ (n : ℕ). node_ok n (node_of m ws i) && has_some (node_of m ws i)) (sym er) ∙ order-true)
-
-      pub take-planned : (b : Bool) (v : Move) → b ≡ lifts_ok u a (node_of m ws (f + j * m)) → (b ≡ true → v ≡ take_from j a (node_of m ws (f + j * m))) → Planned m r u Take i f ws b v
-      take-planned b v eb ev k er eu = (
-        step-take m k Take _ _ b refl (lifted b eb k er eu),
-        λ z. move-take m Take i f ws v refl (ev z ∙ take-from m i f ws j a ch),
-      )
-
-      pub swap-planned : (x : Element) (b : Bool) (v : Move) → b ≡ lifts_ok u a (node_of m ws (f + j * m)) → (b ≡ true → v ≡ swap_from j a (node_of m ws (f + j * m)) x)
-          → Planned m r u (Swap x) i f ws b v
-      swap-planned x b v eb ev k er eu = (
-        step-swap m k (Swap x) _ _ x b refl (lifted b eb k er eu),
-        λ z. move-swap m (Swap x) i f ws v x refl (ev z ∙ swap-from m i f ws j a ch x),
-      )
+    pub swap-planned : (x : Element) (p : Option Move) → is_some p ≡ lifts_ok u a (node_of m ws (f + j * m)) → IfSome p (λ v. v ≡ swap_from j a (node_of m ws (f + j * m)) x)
+        → Planned m r u (Swap x) i f ws p
+    swap-planned x p eb ev k er eu = (
+      step-swap m k (Swap x) _ _ x (is_some p) refl (lifted (is_some p) eb k er eu),
+      IfSome_then p ev (λ v e. move-swap m (Swap x) i f ws v x refl (e ∙ swap-from m i f ws j a ch x)),
+    )

@@ -1,6 +1,6 @@
 -- What a step that is looked at before it is done says of its node.
-use Rattle.std.specs.Prelude.{◌&&◌, ◌+◌, ◌-◌, ◌<◌, ◌||◌, ◌≡◌, ◌≤◌}
-use Rattle.laws.specs.Prelude.{Bool, Element, List, blank, cond, key, leb, ltb, not, pred, suc, true, ℕ}
+use Rattle.std.specs.Prelude.{Option, ◌&&◌, ◌+◌, ◌-◌, ◌<◌, ◌||◌, ◌≡◌, ◌≤◌, IfSome, is_some}
+use Rattle.laws.specs.Prelude.{Bool, Element, List, blank, cond, key, leb, ltb, not, pred, suc, ℕ}
 use Rattle.tree_node.specs.Room.{child_of, ChildrenIn}
 use Rattle.tree_node.specs.Look.{NodeIn}
 use Rattle.tree_model.specs.Prelude.{has_some, is_empty, keep, low, move, node_move, node_of, node_ok, pass, room, slot_limit, slot_of, step_ok}
@@ -38,7 +38,7 @@ pub record PlanIn (m i f r u : ℕ) (ws : List ℕ) : Type 0 where
   pub deeper : u ≤ slot_limit
   pub children : 1 ≤ r → ChildrenIn m f ws
 
--- a plan of an operation's step there: whatever number of levels has this room, the test for damage and, where it is passed, the step
-abbrev pub Planned : ℕ → ℕ → ℕ → Op → ℕ → ℕ → List ℕ → Bool → Move → Type 0
-Planned m r u o i f ws ok v =
-    (k : ℕ) → r ≡ room m k → u ≡ room m (pred k) → (ok ≡ step_ok m k o (node_of m ws i) (child_of m f ws)) × (ok ≡ true → v ≡ node_move m o i f ws)
+-- a plan of an operation's step there: whatever number of levels has this room, there is one where the test for damage is passed, and it is the step
+abbrev pub Planned : ℕ → ℕ → ℕ → Op → ℕ → ℕ → List ℕ → Option Move → Type 0
+Planned m r u o i f ws p =
+    (k : ℕ) → r ≡ room m k → u ≡ room m (pred k) → (is_some p ≡ step_ok m k o (node_of m ws i) (child_of m f ws)) × IfSome p (λ v. v ≡ node_move m o i f ws)

@@ -1,8 +1,7 @@
-// A step at one node looked at before anything is written: whether all that it reads is in order, and what it would do. Each node is
-// scanned once.
+// A step at one node looked at before anything is written: the step, where all that it reads is in order. Each node is scanned once.
 #![tactic(auto)]
 
-ghost use Rattle.std.specs.Prelude.{◌≡◌, ◌&&◌, true, ◌+◌, ◌*◌, ◌<◌, ◌≤◌, ℕ};
+ghost use Rattle.std.specs.Prelude.{◌≡◌, ◌&&◌, ◌+◌, ◌*◌, ◌<◌, ◌≤◌, ℕ, IfSome, is_some};
 ghost use Rattle.tree_model.specs.Node.{least_count, lowest, move};
 ghost use Rattle.tree_model.specs.Words.{node_of};
 ghost use Rattle.tree_model.specs.Damage.{node_ok, has_room, has_some};
@@ -18,103 +17,78 @@ use tree_node::slot::slot_at;
 
 // ---- choices
 
-// The slot that a step chooses, its place, and whether the node is in order for that step. Where it is not, the slot says nothing.
+// The slot that a step chooses, and its place.
 #[derive(Clone, Copy)]
 pub struct Choice {
-    pub ok: bool,
     pub place: usize,
     pub slot: Slot,
 }
 
-// For a put: the slot with the smallest count, which must leave room.
-pub fn choose_least(s: &[u32], at: usize, order: usize, room: usize) -> Choice
+// For a put: the slot with the smallest count, where the node is in order and that slot leaves room.
+pub fn choose_least(s: &[u32], at: usize, order: usize, room: usize) -> Option<Choice>
     requires { NodeIn order at s.now × (order ≤ 8) × (room ≤ slot_limit) }
-    ensures order { result.ok ≡ (node_ok room (node_of order s.now at) && has_room room (node_of order s.now at)) }
-    ensures chosen { result.ok ≡ true → Chosen order at s.now (least_count (node_of order s.now at)) result.place result.slot }
-    ensures small { result.ok ≡ true → result.slot.count ≤ slot_limit }
+    ensures order { is_some result ≡ (node_ok room (node_of order s.now at) && has_room room (node_of order s.now at)) }
+    ensures chosen { IfSome result (λ c. Chosen order at s.now (least_count (node_of order s.now at)) c.place c.slot) }
+    ensures small { IfSome result (λ c. c.slot.count ≤ slot_limit) }
 {
     let l = look_least(s, at, order, room);
-    let place = l.place;
-    let slot = slot_at(s, at + place);
+    let slot = slot_at(s, at + l.place);
     let ok = l.ok & (slot.count as usize <= room);
-    Choice { ok, place, slot }
+    ok.then_some(Choice {
+        place: l.place,
+        slot,
+    })
 }
 
-// For a take, a swap or a read for the lowest: the occupied slot of lowest rank, of which there must be one.
-pub fn choose_low(s: &[u32], at: usize, order: usize, room: usize) -> Choice
+// For a take, a swap or a read for the lowest: the occupied slot of lowest rank, where the node is in order and has one.
+pub fn choose_low(s: &[u32], at: usize, order: usize, room: usize) -> Option<Choice>
     requires { NodeIn order at s.now × (order ≤ 8) × (room ≤ slot_limit) }
-    ensures order { result.ok ≡ (node_ok room (node_of order s.now at) && has_some (node_of order s.now at)) }
-    ensures chosen { result.ok ≡ true → Chosen order at s.now (lowest (node_of order s.now at)) result.place result.slot }
+    ensures order { is_some result ≡ (node_ok room (node_of order s.now at) && has_some (node_of order s.now at)) }
+    ensures chosen { IfSome result (λ c. Chosen order at s.now (lowest (node_of order s.now at)) c.place c.slot) }
 {
     let l = look_low(s, at, order, room);
-    let place = l.place;
-    if place == order {
-        let slot = Slot {
-            element: no_element(),
-            count: 0,
-        };
-        return Choice {
-            ok: false,
-            place,
-            slot,
-        };
+    if l.place == order {
+        return None;
     }
-    let slot = slot_at(s, at + place);
-    Choice {
-        ok: l.ok,
-        place,
+    let slot = slot_at(s, at + l.place);
+    l.ok.then_some(Choice {
+        place: l.place,
         slot,
-    }
+    })
 }
 
-// ---- plans
+// ---- steps
 
-// Whether all that a step reads is in order and, where it is, the step.
-#[derive(Clone, Copy)]
-pub struct Plan {
-    pub ok: bool,
-    pub step: Move,
-}
-
-fn planned(place: usize, element: Element, count: u32, rest: Op) -> Plan
-    ensures { (result.ok ≡ true) × (result.step ≡ move place element count rest) }
+fn step_at(place: usize, element: Element, count: u32, rest: Op) -> Move
+    ensures { result ≡ move place element count rest }
 {
     let slot = Slot { element, count };
-    let step = Move { place, slot, rest };
-    Plan { ok: true, step }
+    Move { place, slot, rest }
 }
 
-// Nothing is to be done: no slot has that place.
-pub fn no_plan(order: usize, ok: bool) -> Plan
-    ensures { (result.ok ≡ ok) × (result.step ≡ move order blank 0 Op.Nothing) }
+// Nothing is done: no slot has that place. It is a step and no None, since `node_move` has it so.
+pub fn no_step(order: usize) -> Move
+    ensures { result ≡ move order blank 0 Op.Nothing }
 {
-    let slot = Slot {
-        element: no_element(),
-        count: 0,
-    };
-    let step = Move {
-        place: order,
-        slot,
-        rest: Op::Nothing,
-    };
-    Plan { ok, step }
+    step_at(order, no_element(), 0, Op::Nothing)
 }
 
 // A put at the chosen slot.
-pub fn plan_put(place: usize, slot: Slot, x: Element) -> Plan
+#[tactic(auto, unfolding(crate::specs::Planning::put_from, tree_model::specs::Node::is_empty))]
+pub fn plan_put(place: usize, slot: Slot, x: Element) -> Move
     requires { slot.count ≤ slot_limit }
-    ensures { (result.ok ≡ true) × (result.step ≡ put_from place slot x) }
+    ensures { result ≡ put_from place slot x }
 {
-    let count = slot.count;
-    if count == 0 {
-        return planned(place, x, 1, Op::Nothing);
+    if slot.count == 0 {
+        return step_at(place, x, 1, Op::Nothing);
     }
     let y = slot.element;
     let down = goes_down(x, y);
-    planned(place, stays(x, y), count + 1, Op::Put(down))
+    step_at(place, stays(x, y), slot.count + 1, Op::Put(down))
 }
 
 // A take at the chosen slot: above count 1 it lifts the lowest element of the node below, the first of which begins at slot `first`.
+#[tactic(auto, unfolding(crate::specs::Planning::lifts_ok, crate::specs::Planning::take_from))]
 pub fn plan_take(
     s: &[u32],
     first: usize,
@@ -122,25 +96,21 @@ pub fn plan_take(
     room: usize,
     place: usize,
     slot: Slot,
-) -> Plan
+) -> Option<Move>
     requires { (1 < slot.count → NodeIn order (first + place * order) s.now) × (order ≤ 8) × (room ≤ slot_limit) }
-    ensures order { result.ok ≡ lifts_ok room slot (node_of order s.now (first + place * order)) }
-    ensures step { result.ok ≡ true → result.step ≡ take_from place slot (node_of order s.now (first + place * order)) }
+    ensures order { is_some result ≡ lifts_ok room slot (node_of order s.now (first + place * order)) }
+    ensures step { IfSome result (λ v. v ≡ take_from place slot (node_of order s.now (first + place * order))) }
 {
-    let count = slot.count;
-    if count <= 1 {
-        return planned(place, no_element(), 0, Op::Nothing);
+    if slot.count <= 1 {
+        return Some(step_at(place, no_element(), 0, Op::Nothing));
     }
-    let c = choose_low(s, first + place * order, order, room);
-    if !c.ok {
-        return no_plan(order, false);
-    }
-    let low = c.slot;
-    let up = low.element;
-    planned(place, up, count - 1, Op::Take)
+    let c = choose_low(s, first + place * order, order, room)?;
+    let up = c.slot.element;
+    Some(step_at(place, up, slot.count - 1, Op::Take))
 }
 
-// A swap likewise.
+// A swap likewise. One function for both would be no plainer: they share the choice below, and nothing after it.
+#[tactic(auto, unfolding(crate::specs::Planning::lifts_ok, crate::specs::Planning::swap_from))]
 pub fn plan_swap(
     s: &[u32],
     first: usize,
@@ -149,51 +119,45 @@ pub fn plan_swap(
     place: usize,
     slot: Slot,
     x: Element,
-) -> Plan
+) -> Option<Move>
     requires { (1 < slot.count → NodeIn order (first + place * order) s.now) × (order ≤ 8) × (room ≤ slot_limit) }
-    ensures order { result.ok ≡ lifts_ok room slot (node_of order s.now (first + place * order)) }
-    ensures step { result.ok ≡ true → result.step ≡ swap_from place slot (node_of order s.now (first + place * order)) x }
+    ensures order { is_some result ≡ lifts_ok room slot (node_of order s.now (first + place * order)) }
+    ensures step { IfSome result (λ v. v ≡ swap_from place slot (node_of order s.now (first + place * order)) x) }
 {
-    let count = slot.count;
-    if count <= 1 {
-        return planned(place, x, count, Op::Nothing);
+    if slot.count <= 1 {
+        return Some(step_at(place, x, slot.count, Op::Nothing));
     }
-    let c = choose_low(s, first + place * order, order, room);
-    if !c.ok {
-        return no_plan(order, false);
-    }
-    let low = c.slot;
-    let up = low.element;
+    let c = choose_low(s, first + place * order, order, room)?;
+    let up = c.slot.element;
     if lower(up, x) {
-        return planned(place, up, count, Op::Swap(x));
+        return Some(step_at(place, up, slot.count, Op::Swap(x)));
     }
-    planned(place, x, count, Op::Nothing)
+    Some(step_at(place, x, slot.count, Op::Nothing))
 }
 
 // ---- the step of a node: `room` is the room below a slot of this level, `under` below one of the next
 
-fn put_at(s: &[u32], at: usize, order: usize, room: usize, x: Element) -> Plan
+fn put_at(s: &[u32], at: usize, order: usize, room: usize, x: Element) -> Option<Move>
     requires { NodeIn order at s.now × (order ≤ 8) × (room ≤ slot_limit) }
-    ensures { (under first : ℕ) → Planned order room under (Op.Put x) at first s.now result.ok result.step }
+    ensures { (under first : ℕ) → Planned order room under (Op.Put x) at first s.now result }
 {
-    let c = choose_least(s, at, order, room);
-    if !c.ok {
-        return no_plan(order, false);
-    }
-    let slot = c.slot;
-    plan_put(c.place, slot, x)
+    let c = choose_least(s, at, order, room)?;
+    Some(plan_put(c.place, c.slot, x))
 }
 
-fn take_at(s: &[u32], at: usize, first: usize, order: usize, room: usize, under: usize) -> Plan
+fn take_at(
+    s: &[u32],
+    at: usize,
+    first: usize,
+    order: usize,
+    room: usize,
+    under: usize,
+) -> Option<Move>
     requires { PlanIn order at first room under s.now }
-    ensures { Planned order room under Op.Take at first s.now result.ok result.step }
+    ensures { Planned order room under Op.Take at first s.now result }
 {
-    let c = choose_low(s, at, order, room);
-    if !c.ok {
-        return no_plan(order, false);
-    }
-    let slot = c.slot;
-    plan_take(s, first, order, under, c.place, slot)
+    let c = choose_low(s, at, order, room)?;
+    plan_take(s, first, order, under, c.place, c.slot)
 }
 
 fn swap_at(
@@ -204,16 +168,12 @@ fn swap_at(
     room: usize,
     under: usize,
     x: Element,
-) -> Plan
+) -> Option<Move>
     requires { PlanIn order at first room under s.now }
-    ensures { Planned order room under (Op.Swap x) at first s.now result.ok result.step }
+    ensures { Planned order room under (Op.Swap x) at first s.now result }
 {
-    let c = choose_low(s, at, order, room);
-    if !c.ok {
-        return no_plan(order, false);
-    }
-    let slot = c.slot;
-    plan_swap(s, first, order, under, c.place, slot, x)
+    let c = choose_low(s, at, order, room)?;
+    plan_swap(s, first, order, under, c.place, c.slot, x)
 }
 
 // The step of any operation at the node whose first slot is slot `at`; the node below its first place begins at slot `first`.
@@ -225,12 +185,13 @@ pub fn plan_of(
     room: usize,
     under: usize,
     op: Op,
-) -> Plan
+) -> Option<Move>
     requires { PlanIn order at first room under s.now }
-    ensures { Planned order room under op at first s.now result.ok result.step }
+    ensures { Planned order room under op at first s.now result }
 {
+    // each arm hands over other values: a closure for the step would be no plainer
     match op {
-        Op::Nothing => no_plan(order, true),
+        Op::Nothing => Some(no_step(order)),
         Op::Put(x) => put_at(s, at, order, room, x),
         Op::Take => take_at(s, at, first, order, room, under),
         Op::Swap(x) => swap_at(s, at, first, order, room, under, x),

@@ -1,5 +1,5 @@
 -- A call on what was read of a lent slice: each test and what follows it leave what the definitions say.
-use Rattle.laws.specs.Prelude.{Answer, BadShape, Bool, List, Refused, Request, ◌&&◌, ◌-◌, ◌∙◌, ◌≡◌, ap, cond, false, ltb, not, not-false, not-true, refl, sym, true, ℕ}
+use Rattle.laws.specs.Prelude.{Answer, BadShape, Bool, List, Request, ◌&&◌, ◌-◌, ◌∙◌, ◌≡◌, ap, cond, false, ltb, not, not-false, not-true, refl, sym, true, ℕ, Err}
 use Rattle.tree_clock_model.specs.Prelude.{CycleOutcome, DrainOutcome, clocked_cleared, cycle_outcome, cycled, drain_outcome, drains, fresh, has_run}
 use Rattle.tree_clock_model.specs.declared.State.{State}
 use Rattle.tree_records.specs.Steps.{clear_from, cycle_from, drain_from, lends, state_of, ended, ended_cycle, ended_drain, unread}
@@ -30,7 +30,7 @@ module _ (m levels len : ℕ) (mark : Bool) (ws : List ℕ) (t : Bool) (tested :
     both : (lends levels len && d.ok) ≡ (t && d.ok)
     both = ap (λ (b : Bool). b && d.ok) (sym tested)
 
-    module _ (e : not (t && d.ok) ≡ true) (x : Ended) (p : x ≡ ended (Refused BadShape) 0 false (state_of d mark) 0) where
+    module _ (e : not (t && d.ok) ≡ true) (x : Ended) (p : x ≡ ended (Err BadShape) 0 false (state_of d mark) 0) where
       pub cycle-unread : (r : Request) → (ws ≡ (cycle_from m levels len mark ws d r).words) × (x ≡ ended_cycle levels (cycle_from m levels len mark ws d r))
       unfolding cycle_from
       cycle-unread r = rw (both ∙ not-true (t && d.ok) e) (refl, p)
@@ -54,10 +54,10 @@ module _ (m levels len : ℕ) (mark : Bool) (ws : List ℕ) (t : Bool) (tested :
 
   -- a clear
   module _ (u : State) (is : u ≡ unread mark) where
-    pub clear-unread : not t ≡ true → (x : Ended) → x ≡ ended (Refused BadShape) 0 false u 0
+    pub clear-unread : not t ≡ true → (x : Ended) → x ≡ ended (Err BadShape) 0 false u 0
         → (ws ≡ (clear_from m levels len mark ws).words) × (x ≡ ended_cycle levels (clear_from m levels len mark ws))
     unfolding clear_from
-    clear-unread e x p = rw (sym tested ∙ not-true t e) (refl, p ∙ ap (λ (u : State). ended (Refused BadShape) 0 false u 0) is)
+    clear-unread e x p = rw (sym tested ∙ not-true t e) (refl, p ∙ ap (λ (u : State). ended (Err BadShape) 0 false u 0) is)
 
     pub clear-ended : not t ≡ false → (a : Answer) (after : List ℕ) (s : State) → cycle_outcome a after s ≡ clocked_cleared m levels u ws
         → (ran : Bool) → ran ≡ has_run a → (n : ℕ) → n ≡ cond ran (levels - 1) 0 → (x : Ended) → x ≡ ended a 0 false s n

@@ -1,5 +1,5 @@
 -- A machine goes by its levels' work and its mark: two states that agree on these answer alike, leave the same words, and agree again.
-use Rattle.laws.specs.Prelude.{Answer, BadShape, Bool, Damaged, Done, Idle, List, Refused, Request, [], ◌&&◌, ◌∙◌, ◌∷◌, ◌≡◌, ◌≤◌, ap, ap₂, arith, cond, false, false≢true, length, not, pred, refl, replicate, subst, suc, sym, true, true≢false, zero, ℕ}
+use Rattle.laws.specs.Prelude.{Answer, BadShape, Bool, Damaged, Idle, List, Request, [], ◌&&◌, ◌∙◌, ◌∷◌, ◌≡◌, ◌≤◌, ap, ap₂, arith, cond, false, false≢true, length, not, pred, refl, replicate, subst, suc, sym, true, true≢false, zero, ℕ, Ok, None, Err}
 use Rattle.tree_clock_model.proofs.Laws.{after-length, cycled-length, drain-state, plain-rest, sound, works-after}
 use Rattle.tree_clock_model.specs.Prelude.{CycleOutcome, DrainOutcome, Works, asked_ok, cycle_ok, cycle_outcome, cycle_run, cycle_words, cycle_works, cycled, drain_from, drain_outcome, drains, is_refused, pending, quiet, rule_marked, rule_now, runs, works_of}
 use Rattle.tree_clock_model.specs.declared.State.{State}
@@ -63,11 +63,11 @@ module _ (m levels : ℕ) where
   cycled-same r s t ws a = go (shape_ok m levels (length ws)) (sound m levels r s ws) (sound m levels r t ws) (sound-same r s t ws a) (rule_now m levels r s ws) (rule_now m levels r t ws) (rule_now-same r s t ws a)
     where
       go : (c b d : Bool) → b ≡ d → (g h : Ruling) → g ≡ h
-          → SameCycle k (cond c (cond b (cycle_run m levels r g s ws) (cycle_outcome (Refused Damaged) ws s)) (cycle_outcome (Refused BadShape) ws s))
-          (cond c (cond d (cycle_run m levels r h t ws) (cycle_outcome (Refused Damaged) ws t)) (cycle_outcome (Refused BadShape) ws t))
-      go false b d e g h f = stood-same (Refused BadShape) s t ws a
+          → SameCycle k (cond c (cond b (cycle_run m levels r g s ws) (cycle_outcome (Err Damaged) ws s)) (cycle_outcome (Err BadShape) ws s))
+          (cond c (cond d (cycle_run m levels r h t ws) (cycle_outcome (Err Damaged) ws t)) (cycle_outcome (Err BadShape) ws t))
+      go false b d e g h f = stood-same (Err BadShape) s t ws a
       go true true true e g h f = subst (λ (h : Ruling). SameCycle k (cycle_run m levels r g s ws) (cycle_run m levels r h t ws)) f (cycle_run-same r g s t ws a)
-      go true false false e g h f = stood-same (Refused Damaged) s t ws a
+      go true false false e g h f = stood-same (Err Damaged) s t ws a
       go true true false e g h f = absurd (true≢false e)
       go true false true e g h f = absurd (false≢true e)
 
@@ -83,8 +83,8 @@ module _ (m levels : ℕ) where
     where
       go : (x y : Bool) → x ≡ y → (o p : CycleOutcome) → SameCycle k o p
           → ((s t : State) (ws : List ℕ) → Alike k s t → SameDrain k (drain_from m levels b (suc n) s ws) (drain_from m levels b (suc n) t ws))
-          → SameDrain k (cond x (cond (is_refused o.answer) (drain_outcome o.answer n true o.words o.state) (drain_from m levels b (suc n) o.state o.words)) (drain_outcome Done n false ws s))
-          (cond y (cond (is_refused p.answer) (drain_outcome p.answer n true p.words p.state) (drain_from m levels b (suc n) p.state p.words)) (drain_outcome Done n false ws t))
+          → SameDrain k (cond x (cond (is_refused o.answer) (drain_outcome o.answer n true o.words o.state) (drain_from m levels b (suc n) o.state o.words)) (drain_outcome (Ok None) n false ws s))
+          (cond y (cond (is_refused p.answer) (drain_outcome p.answer n true p.words p.state) (drain_from m levels b (suc n) p.state p.words)) (drain_outcome (Ok None) n false ws t))
       go true true e o p c ih = inner (is_refused o.answer) (is_refused p.answer) (ap is_refused c.answer)
         where
           inner : (x y : Bool) → x ≡ y
@@ -104,7 +104,7 @@ module _ (m levels : ℕ) where
   unfolding drains
   drains-same budget s t ws a = go (shape_ok m levels (length ws))
     where
-      go : (b : Bool) → SameDrain k (cond b (drain_from m levels budget 0 s ws) (drain_outcome (Refused BadShape) 0 false ws s)) (cond b (drain_from m levels budget 0 t ws) (drain_outcome (Refused BadShape) 0 false ws t))
+      go : (b : Bool) → SameDrain k (cond b (drain_from m levels budget 0 s ws) (drain_outcome (Err BadShape) 0 false ws s)) (cond b (drain_from m levels budget 0 t ws) (drain_outcome (Err BadShape) 0 false ws t))
       go true = drain-from-same budget 0 s t ws a
       go false = record { answer = refl; cycles = refl; left = refl; words = refl; state = a }
 
@@ -117,7 +117,7 @@ module _ (m levels : ℕ) where
       g : Ruling
       g = rule_now m levels r s ws
 
-      go : (a b : Bool) → length (cond a (cond b (cycle_run m levels r g s ws) (cycle_outcome (Refused Damaged) ws s)) (cycle_outcome (Refused BadShape) ws s)).state.records ≡ length s.records
+      go : (a b : Bool) → length (cond a (cond b (cycle_run m levels r g s ws) (cycle_outcome (Err Damaged) ws s)) (cycle_outcome (Err BadShape) ws s)).state.records ≡ length s.records
       go false b = refl
       go true false = refl
       go true true = after-length m (pred levels) (rest_words m (pred levels) (work g.op 0) 0 1 ws) 0 s.records (under m (pred levels) ws 0 1)

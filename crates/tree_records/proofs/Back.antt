@@ -1,5 +1,5 @@
 -- What the code of a lent call has read, had ended and written back is what the definitions say.
-use Rattle.laws.specs.Prelude.{BadShape, Bool, List, Refused, Request, ◌&&◌, ◌-◌, ◌<◌, ◌∙◌, ◌≡◌, ◌≤◌, ap, ap₂, arith, cond, eq-or-lt_of_le, false, get_or, get_or-set_other, get_or-set_same, le-leb, le_of_suc-le-suc, leb, length, length-replicate, length-set, ltb, not-suc-le-zero, refl, replicate, set, suc, sym, true, true≢false, zero, ℕ, ⊎_elim}
+use Rattle.laws.specs.Prelude.{BadShape, Bool, List, Request, ◌&&◌, ◌-◌, ◌<◌, ◌∙◌, ◌≡◌, ◌≤◌, ap, ap₂, arith, cond, eq-or-lt_of_le, false, get_or, get_or-set_other, get_or-set_same, le-leb, le_of_suc-le-suc, leb, length, length-replicate, length-set, ltb, not-suc-le-zero, refl, set, suc, sym, true, true≢false, zero, ℕ, ⊎_elim, Err}
 use Rattle.tree_clock_model.proofs.Laws.{cycled-bad, drain-bad, few-levels}
 use Rattle.tree_clock_model.specs.Prelude.{CycleOutcome, DrainOutcome, clocked_cleared, cycle_outcome, cycled, drain_outcome, drains, has_run, record_count}
 use Rattle.tree_clock_model.specs.declared.State.{State}
@@ -13,22 +13,6 @@ use Rattle.tree_model.specs.Prelude.{idle, shape_ok}
 use Rattle.tree_model.specs.declared.Work.{Work}
 
 -- ---- reading, one after the other
-pub works-none : (rs : List Record) → replicate record_count idle ≡ works_read 0 rs
-unfolding works_read
-works-none rs = refl
-
-pub works-more : (i : ℕ) (rs : List Record) (w : Work) → w ≡ work_of (get_or rs i no_record) → set (works_read i rs) i w ≡ works_read (suc i) rs
-unfolding works_read
-works-more i rs w e = ap (set (works_read i rs) i) e
-
-pub kinds-none : (rs : List Record) → true ≡ kinds_ok 0 rs
-unfolding kinds_ok
-kinds-none rs = refl
-
-pub kinds-more : (i : ℕ) (rs : List Record) (b : Bool) → b ≡ leb (get_or rs i no_record).kind 3 → kinds_ok i rs && b ≡ kinds_ok (suc i) rs
-unfolding kinds_ok
-kinds-more i rs b e = ap (λ (b : Bool). kinds_ok i rs && b) e
-
 pub works-few : (k : ℕ) (rs : List Record) → length (works_read k rs) ≡ record_count
 unfolding works_read
 works-few zero rs = length-replicate record_count idle
@@ -119,40 +103,37 @@ module _ (m levels : ℕ) (mark : Bool) (ws : List ℕ) (rs : List Record) where
 
   -- what is read of a slice that is lent
   module _ (e : lends levels (length rs) ≡ true) where
-    read_all : d ≡ read_of (levels - 1) rs
-    read_all = ap (λ (b : Bool). read_of (cond b (levels - 1) 0) rs) e
-
     kinds-all : readable (levels - 1) rs ≡ kinds_ok (levels - 1) rs
     kinds-all = readable-kinds (levels - 1) rs (le-leb (levels - 1) (length rs) (lends-within levels (length rs) e))
 
   -- a slice that is not lent
   module _ (e : lends levels (length rs) ≡ false) where
-    cycle-unlent : (r : Request) → lent_outcome (Refused BadShape) ws rs mark ≡ lent_cycled m levels mark rs ws r
+    cycle-unlent : (r : Request) → lent_outcome (Err BadShape) ws rs mark ≡ lent_cycled m levels mark rs ws r
     unfolding lent_cycled
     cycle-unlent r =
         short-or-bad m levels (length rs) (length ws) e _ (λ f. rw (readable-short (levels - 1) rs f))
         (λ f. rw (cycled-bad m levels r (state_read (levels - 1) rs mark) ws f) (either (readable (levels - 1) rs)))
       where
-        either : (b : Bool) → lent_outcome (Refused BadShape) ws rs mark ≡ cond b (lent_outcome (Refused BadShape) ws rs mark) (lent_outcome (Refused BadShape) ws rs mark)
+        either : (b : Bool) → lent_outcome (Err BadShape) ws rs mark ≡ cond b (lent_outcome (Err BadShape) ws rs mark) (lent_outcome (Err BadShape) ws rs mark)
         either true = refl
         either false = refl
 
-    drain-unlent : (budget : ℕ) → lent_drain (Refused BadShape) 0 false ws rs mark ≡ lent_drains m levels mark rs ws budget
+    drain-unlent : (budget : ℕ) → lent_drain (Err BadShape) 0 false ws rs mark ≡ lent_drains m levels mark rs ws budget
     unfolding lent_drains
     drain-unlent budget =
         short-or-bad m levels (length rs) (length ws) e _ (λ f. rw (readable-short (levels - 1) rs f))
         (λ f. rw (drain-bad m levels budget (state_read (levels - 1) rs mark) ws f) (either (readable (levels - 1) rs)))
       where
-        either : (b : Bool) → lent_drain (Refused BadShape) 0 false ws rs mark ≡ cond b (lent_drain (Refused BadShape) 0 false ws rs mark) (lent_drain (Refused BadShape) 0 false ws rs mark)
+        either : (b : Bool) → lent_drain (Err BadShape) 0 false ws rs mark ≡ cond b (lent_drain (Err BadShape) 0 false ws rs mark) (lent_drain (Err BadShape) 0 false ws rs mark)
         either true = refl
         either false = refl
 
-    clear-unlent : lent_outcome (Refused BadShape) ws rs mark ≡ lent_cleared m levels mark rs ws
+    clear-unlent : lent_outcome (Err BadShape) ws rs mark ≡ lent_cleared m levels mark rs ws
     unfolding lent_cleared clocked_cleared
     clear-unlent =
         short-or-bad m levels (length rs) (length ws) e _ (λ f. rw f) (λ f. rw f (either (leb (levels - 1) (length rs))))
       where
-        either : (b : Bool) → lent_outcome (Refused BadShape) ws rs mark ≡ cond b (lent_outcome (Refused BadShape) ws rs mark) (lent_outcome (Refused BadShape) ws rs mark)
+        either : (b : Bool) → lent_outcome (Err BadShape) ws rs mark ≡ cond b (lent_outcome (Err BadShape) ws rs mark) (lent_outcome (Err BadShape) ws rs mark)
         either true = refl
         either false = refl
 
@@ -161,8 +142,8 @@ module _ (m levels : ℕ) (mark : Bool) (ws : List ℕ) (rs : List Record) where
   unfolding cycle_from lent_cycled
   cycle-lent r = cycle-parts levels rs (cycle_from m levels (length rs) mark ws d r) ∙ go (lends levels (length rs)) refl
     where
-      read : (ok : Bool) → lent_of levels rs (cond ok (cycled m levels r (state_read (levels - 1) rs mark) ws) (cycle_outcome (Refused BadShape) ws (state_read (levels - 1) rs mark)))
-          ≡ cond ok (lent_of levels rs (cycled m levels r (state_read (levels - 1) rs mark) ws)) (lent_outcome (Refused BadShape) ws rs mark)
+      read : (ok : Bool) → lent_of levels rs (cond ok (cycled m levels r (state_read (levels - 1) rs mark) ws) (cycle_outcome (Err BadShape) ws (state_read (levels - 1) rs mark)))
+          ≡ cond ok (lent_of levels rs (cycled m levels r (state_read (levels - 1) rs mark) ws)) (lent_outcome (Err BadShape) ws rs mark)
       read true = refl
       read false = refl
 
@@ -174,8 +155,8 @@ module _ (m levels : ℕ) (mark : Bool) (ws : List ℕ) (rs : List Record) where
   unfolding drain_from lent_drains
   drain-lent budget = drain-parts levels rs (drain_from m levels (length rs) mark ws d budget) ∙ go (lends levels (length rs)) refl
     where
-      read : (ok : Bool) → drain_of levels rs (cond ok (drains m levels budget (state_read (levels - 1) rs mark) ws) (drain_outcome (Refused BadShape) 0 false ws (state_read (levels - 1) rs mark)))
-          ≡ cond ok (drain_of levels rs (drains m levels budget (state_read (levels - 1) rs mark) ws)) (lent_drain (Refused BadShape) 0 false ws rs mark)
+      read : (ok : Bool) → drain_of levels rs (cond ok (drains m levels budget (state_read (levels - 1) rs mark) ws) (drain_outcome (Err BadShape) 0 false ws (state_read (levels - 1) rs mark)))
+          ≡ cond ok (drain_of levels rs (drains m levels budget (state_read (levels - 1) rs mark) ws)) (lent_drain (Err BadShape) 0 false ws rs mark)
       read true = refl
       read false = refl
 

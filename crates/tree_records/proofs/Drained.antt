@@ -1,5 +1,5 @@
 -- "at 1 it reports 0 and no work left".
-use Rattle.laws.specs.Prelude.{BadShape, Bool, List, Refused, ◌-◌, ◌≡◌, ap, arith, cond, false, length, number_of, refl, true, ℕ}
+use Rattle.laws.specs.Prelude.{BadShape, Bool, List, ◌-◌, ◌≡◌, ap, arith, cond, false, length, number_of, refl, true, ℕ, Err}
 use Rattle.tree_clock_model.proofs.Drain as model
 use Rattle.tree_clock_model.proofs.Laws.{End, done, jammed}
 use Rattle.tree_clock_model.specs.Prelude.{DrainOutcome, drains}
@@ -26,7 +26,7 @@ drain-bad m levels mark rs ws budget = go (readable (levels - 1) rs) (shape_ok m
     s = state_read (levels - 1) rs mark
 
     left : Bool → LentDrain
-    left b = cond b (drain_of levels rs (drains m levels budget s ws)) (lent_drain (Refused BadShape) 0 false ws rs mark)
+    left b = cond b (drain_of levels rs (drains m levels budget s ws)) (lent_drain (Err BadShape) 0 false ws rs mark)
 
     go : (b c : Bool) → shape_ok m levels (length ws) ≡ c → number_of (left b).answer ≡ 1 → ((left b).cycles ≡ 0) × ((left b).left ≡ false)
     go false c e h = (refl, refl)

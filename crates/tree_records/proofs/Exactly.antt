@@ -1,5 +1,5 @@
 -- Every refusal of a lent call is given exactly for its cause, and leaves words, records and mark as its table says.
-use Rattle.laws.specs.Prelude.{Answer, BadShape, Bool, Done, Exactly, Idle, List, Means, Refusal, Refused, Request, ◌-◌, ◌∙◌, ◌≡◌, ◌≤◌, ap, climb, climb-fine, cond, false, false≢true, fine, leb, left_behind, length, ltb, means-and, means-by, means-leb, not, number_of, refl, refusal_number, rung, subst, sym, true, ℕ}
+use Rattle.laws.specs.Prelude.{Answer, BadShape, Bool, Exactly, Idle, List, Means, Refusal, Request, ◌-◌, ◌∙◌, ◌≡◌, ◌≤◌, ap, climb, climb-fine, cond, false, false≢true, fine, leb, left_behind, length, ltb, means-and, means-by, means-leb, not, number_of, refl, refusal_number, rung, subst, sym, true, ℕ, Ok, None, Err}
 use Rattle.tree_clock_model.proofs.Drain as model
 use Rattle.tree_clock_model.proofs.Exactly as cycles
 use Rattle.tree_clock_model.proofs.Laws.{no-damage-sound, timed}
@@ -51,7 +51,7 @@ module _ (m levels : ℕ) (mark : Bool) (rs : List Record) (ws : List ℕ) where
 
       go : (b : Bool) → (b ≡ true → has_run o.answer ≡ true)
           → (let x = cond {A = Machine} b (machine o.state o.words) (machine s ws) in let y = cond {A = Memory} b (memory (records_back levels rs (has_run o.answer) o.state) o.state.mark o.words) (memory rs mark ws) in
-          lent_outcome (Refused n) x.words (records_back levels rs b x.state) x.state.mark ≡ lent_outcome (Refused n) y.words y.records y.mark)
+          lent_outcome (Err n) x.words (records_back levels rs b x.state) x.state.mark ≡ lent_outcome (Err n) y.words y.records y.mark)
       go true f = rw (f refl)
       go false f = refl
 
@@ -96,12 +96,12 @@ module _ (m levels : ℕ) (mark : Bool) (rs : List Record) (ws : List ℕ) where
         z = model.drain-state m levels budget s ws
 
         go : (b : Bool) → (let ran = cond b 0 o.cycles in let did = cond b 0 d.cycles in let x = lent_idles m levels did (memory rs mark ws) in
-            drain_of levels rs (drain_outcome (Refused n) ran (not b) (idles m levels ran s ws).words (idles m levels ran s ws).state) ≡ lent_drain (Refused n) did (not b) x.words x.records x.mark)
+            drain_of levels rs (drain_outcome (Err n) ran (not b) (idles m levels ran s ws).words (idles m levels ran s ws).state) ≡ lent_drain (Err n) did (not b) x.words x.records x.mark)
         go true = refl
         go false =
-            (λ i. lent_drain (Refused n) o.cycles true (sym z.0 i) (records_back levels rs (ltb 0 o.cycles) (sym z.1 i)) (sym z.1 i).mark)
-            ∙ ap (λ (d : LentDrain). lent_drain (Refused n) d.cycles true d.words d.records d.mark) (sym is)
-            ∙ ap (λ (x : Memory). lent_drain (Refused n) d.cycles true x.words x.records x.mark) (drain-cycles m levels mark rs ws budget)
+            (λ i. lent_drain (Err n) o.cycles true (sym z.0 i) (records_back levels rs (ltb 0 o.cycles) (sym z.1 i)) (sym z.1 i).mark)
+            ∙ ap (λ (d : LentDrain). lent_drain (Err n) d.cycles true d.words d.records d.mark) (sym is)
+            ∙ ap (λ (x : Memory). lent_drain (Err n) d.cycles true x.words x.records x.mark) (drain-cycles m levels mark rs ws budget)
 
     -- EXACTLY: a lent drain. Refused 2 it leaves the memory of the cycles already run
     pub exactly-drain : Exactly reports (lent_drain_left m levels mark rs ws d.cycles) d (lent_drain_refusals m levels mark rs ws budget)
@@ -117,5 +117,5 @@ module _ (m levels : ℕ) (mark : Bool) (rs : List Record) (ws : List ℕ) where
   unfolding lent_cleared clocked_cleared
   exactly-clear =
       climb said (lent_clear_left m levels mark rs ws) refusal-told (leb (levels - 1) (length rs)) (levels - 1 ≤ length rs) BadShape _ (rung BadShape (Shape m levels (length ws)) fine) (means-leb (levels - 1) (length rs))
-      (λ p. decided-exactly said (lent_clear_left m levels mark rs ws) refusal-told (lent_of levels rs) (λ n. cycle_outcome (Refused n) ws (unread mark)) (needs BadShape (shape_ok m levels (length ws)) (Shape m levels (length ws)) ends)
-      (cycle_outcome Done (wipe (room m levels) ws) fresh) fine (shape-means m levels (length ws), λ s. tt) (refl, tt) (λ c. climb-fine said (lent_clear_left m levels mark rs ws) _ (λ n z. zero-told n z)))
+      (λ p. decided-exactly said (lent_clear_left m levels mark rs ws) refusal-told (lent_of levels rs) (λ n. cycle_outcome (Err n) ws (unread mark)) (needs BadShape (shape_ok m levels (length ws)) (Shape m levels (length ws)) ends)
+      (cycle_outcome (Ok None) (wipe (room m levels) ws) fresh) fine (shape-means m levels (length ws), λ s. tt) (refl, tt) (λ c. climb-fine said (lent_clear_left m levels mark rs ws) _ (λ n z. zero-told n z)))

@@ -1,5 +1,5 @@
 -- Record for record: what the host's records are after a cycle, after a drain, and after any list of cycles.
-use Rattle.laws.specs.Prelude.{BadShape, Bool, Idle, List, Refused, Request, [], ◌-◌, ◌<◌, ◌∙◌, ◌∷◌, ◌≡◌, ◌≤◌, ap, ap₂, arith, cond, ext_get_or, false, false≢true, get_or, get_or-replicate, length, lt-ltb, ltb, ltb-false, ltb-true, number_of, pred, refl, replicate, sub-one, subst, suc, sym, true, zero, ℕ}
+use Rattle.laws.specs.Prelude.{BadShape, Bool, Idle, List, Request, [], ◌-◌, ◌<◌, ◌∙◌, ◌∷◌, ◌≡◌, ◌≤◌, ap, ap₂, arith, cond, ext_get_or, false, false≢true, get_or, get_or-replicate, length, lt-ltb, ltb, ltb-false, ltb-true, number_of, pred, refl, replicate, sub-one, subst, suc, sym, true, zero, ℕ, Err}
 use Rattle.tree_clock_model.proofs.Laws.{cycled-either, drain-bad, drain-ran, drain-state, few-levels, one-step, sound-no-damage}
 use Rattle.promise.specs.Prelude.{leaves, zero-ran}
 use Rattle.tree_clock_model.specs.Prelude.{CycleDamage, CycleOutcome, Machine, Works, clocked_queue, cycle_run, cycled, drains, fresh, has_run, idles, landed, leave_below, level_work, machine, ran, record_count, rule_marked, rule_now, works_of}
@@ -10,7 +10,7 @@ use Rattle.tree_records.proofs.Back.{back_at, back-length, back-past}
 use Rattle.tree_records.proofs.History.{alike, clear-holds, clear-is, cycle-holds, held-few, held-kinds, held-long, holds_read, left-all, lent-cycle, stood-cycled}
 use Rattle.tree_records.proofs.Stood.{handed-new, handed-stood, handed-twice, handed-zeros, idle-new, kind_at, loads, q, read_at, read-nothing, run_at, some-kind, some-new, standing-stands, Stood, stood-fresh, stood_on}
 use Rattle.tree_records.specs.History.{cleared_memory, Holds, lent_idles, lent_queue, Memory, memory, RecordStep}
-use Rattle.tree_records.specs.Lent.{drain_of, handed, lent_cycled, lent_drain, LentDrain, lent_drains, LentOutcome, no_record, readable, record_of, records_back, standing, stands, state_read, work_of, works_back}
+use Rattle.tree_records.specs.Lent.{drain_of, handed, lent_cycled, lent_drain, LentDrain, lent_drains, LentOutcome, no_record, readable, record_of, records_back, standing, state_read, work_of, works_back}
 use Rattle.tree_records.specs.declared.Record.{Record}
 use Rattle.tree_model.proofs.Laws.{nothing-fails, shape_is}
 use Rattle.tree_model.specs.Prelude.{Shape, idle, is_nothing, rest_words, rule_at, shape_ok, under, work}
@@ -156,7 +156,7 @@ module _ (m levels : ℕ) (mark : Bool) (rs : List Record) (ws : List ℕ) (budg
   drain-cycles = go (readable (levels - 1) rs) refl (shape_ok m levels (length ws)) refl
     where
       left : Bool → LentDrain
-      left b = cond b (drain_of levels rs (drains m levels budget (state_read (levels - 1) rs mark) ws)) (lent_drain (Refused BadShape) 0 false ws rs mark)
+      left b = cond b (drain_of levels rs (drains m levels budget (state_read (levels - 1) rs mark) ws)) (lent_drain (Err BadShape) 0 false ws rs mark)
 
       go : (b : Bool) → readable (levels - 1) rs ≡ b → (c : Bool) → shape_ok m levels (length ws) ≡ c → memory (left b).records (left b).mark (left b).words ≡ lent_idles m levels (left b).cycles (memory rs mark ws)
       go false e c f = refl

@@ -1,6 +1,6 @@
 -- A list of lent calls is the list of by-value calls on the machine that the host's memory holds: so what is shown of the by-value form holds of the
 -- host's own memory.
-use Rattle.laws.specs.Prelude.{Answer, BadPort, BadRank, BadShape, Bool, Damaged, Done, Empty, Full, Idle, List, NoHeap, NoTag, Out, Refusal, Refused, Request, TooSoon, [], ◌-◌, ◌∙◌, ◌≡◌, ◌≤◌, ◌⊎◌, and_left, and_right, and-true, ap, arith, false, inl, inr, le-leb, leb, leb-true, length, length-replicate, ltb, ltb-false, number_of, pred, refl, replicate, sub-one, subst, sym, true, true≢false, ℕ, ⊎_elim}
+use Rattle.laws.specs.Prelude.{Answer, BadPort, BadRank, BadShape, Bool, Damaged, Empty, Full, Idle, List, NoHeap, NoTag, Refusal, Request, TooSoon, [], ◌-◌, ◌∙◌, ◌≡◌, ◌≤◌, ◌⊎◌, and_left, and_right, and-true, ap, arith, false, inl, inr, le-leb, leb, leb-true, length, length-replicate, ltb, ltb-false, number_of, pred, refl, replicate, sub-one, subst, sym, true, true≢false, ℕ, ⊎_elim, Ok, None, Some, Err}
 use Rattle.tree_clock_model.proofs.Laws.{clear-fresh, clear-taken, cycled-length, drain-state, few-levels, shape-kept, stands as left_behind}
 use Rattle.tree_clock_model.specs.Prelude.{CycleOutcome, DrainOutcome, Machine, clocked_queue, cycle_answers, cycle_left, cycled, drains, fresh, has_run, idles, machine, ran, record_count, works_of}
 use Rattle.tree_clock_model.specs.Promise.{cleared_machine}
@@ -17,18 +17,18 @@ use Rattle.tree_model.specs.Prelude.{Shape, idle}
 use Rattle.tree_model.specs.declared.Work.{Work}
 
 -- ---- a cycle that did not run was refused 1 or 2, and left everything
-not-run : (a : Answer) → has_run a ≡ false → (n : Refusal) × ((n ≡ BadShape) ⊎ (n ≡ Damaged)) × (a ≡ Refused n)
-not-run Done e = absurd (true≢false e)
-not-run (Out x) e = absurd (true≢false e)
-not-run (Refused BadShape) e = (BadShape, inl refl, refl)
-not-run (Refused Damaged) e = (Damaged, inr refl, refl)
-not-run (Refused TooSoon) e = absurd (true≢false e)
-not-run (Refused BadRank) e = absurd (true≢false e)
-not-run (Refused Full) e = absurd (true≢false e)
-not-run (Refused Empty) e = absurd (true≢false e)
-not-run (Refused NoTag) e = absurd (true≢false e)
-not-run (Refused BadPort) e = absurd (true≢false e)
-not-run (Refused NoHeap) e = absurd (true≢false e)
+not-run : (a : Answer) → has_run a ≡ false → (n : Refusal) × ((n ≡ BadShape) ⊎ (n ≡ Damaged)) × (a ≡ Err n)
+not-run (Ok None) e = absurd (true≢false e)
+not-run (Ok (Some x)) e = absurd (true≢false e)
+not-run (Err BadShape) e = (BadShape, inl refl, refl)
+not-run (Err Damaged) e = (Damaged, inr refl, refl)
+not-run (Err TooSoon) e = absurd (true≢false e)
+not-run (Err BadRank) e = absurd (true≢false e)
+not-run (Err Full) e = absurd (true≢false e)
+not-run (Err Empty) e = absurd (true≢false e)
+not-run (Err NoTag) e = absurd (true≢false e)
+not-run (Err BadPort) e = absurd (true≢false e)
+not-run (Err NoHeap) e = absurd (true≢false e)
 
 pub left-all : (m levels : ℕ) (r : Request) (s : State) (ws : List ℕ) → has_run (cycled m levels r s ws).answer ≡ false → (cycled m levels r s ws).state ≡ s
 left-all m levels r s ws e =
@@ -191,13 +191,13 @@ module _ (m levels : ℕ) where
 
 -- ---- CLEARED: a clear, with a shape and a record for each level from 2, is not refused, whatever the records hold, and leaves a cleared machine
 module _ (m levels : ℕ) (rs : List Record) (mark : Bool) (ws : List ℕ) (sh : Shape m levels (length ws)) (long : levels - 1 ≤ length rs) where
-  pub clear-is : lent_cleared m levels mark rs ws ≡ lent_outcome Done (cleared_machine m levels ws).words (works_back (levels - 1) fresh.records rs) false
+  pub clear-is : lent_cleared m levels mark rs ws ≡ lent_outcome (Ok None) (cleared_machine m levels ws).words (works_back (levels - 1) fresh.records rs) false
   unfolding lent_cleared fresh
   clear-is =
       rw (le-leb (levels - 1) (length rs) long)
       (ap (lent_of levels rs) (clear-taken m levels (unread mark) ws sh ∙ (clear-fresh m levels ws sh).0))
 
-  pub clear-answer : (lent_cleared m levels mark rs ws).answer ≡ Done
+  pub clear-answer : (lent_cleared m levels mark rs ws).answer ≡ Ok None
   clear-answer = ap (λ (o : LentOutcome). o.answer) clear-is
 
   pub clear-mark : (lent_cleared m levels mark rs ws).mark ≡ false

@@ -1,5 +1,5 @@
 -- A record that is written lies within the slice, and its node fits its word.
-use Rattle.laws.specs.Prelude.{BadShape, Bool, Done, Idle, List, Refused, Request, [], ◌&&◌, ◌*◌, ◌+◌, ◌-◌, ◌<◌, ◌||◌, ◌∙◌, ◌≡◌, ◌≤◌, and_left, and_right, ap, arith, cond, eq-or-lt_of_le, false, false≢true, get_or, get_or-replicate, length, ltb, ltb-true, mul-le-mul_right, number_of, pred, refl, replicate, sub-one, subst, suc, suc-mul, sym, true, zero, ℕ, ⊎_elim}
+use Rattle.laws.specs.Prelude.{BadShape, Bool, Idle, List, Request, [], ◌&&◌, ◌*◌, ◌+◌, ◌-◌, ◌<◌, ◌||◌, ◌∙◌, ◌≡◌, ◌≤◌, and_left, and_right, ap, arith, cond, eq-or-lt_of_le, false, false≢true, get_or, get_or-replicate, length, ltb, ltb-true, mul-le-mul_right, number_of, pred, refl, replicate, sub-one, subst, suc, suc-mul, sym, true, zero, ℕ, ⊎_elim, Ok, None, Err}
 use native.Mathlib.Nat.{suc-pred-eq_of_pos}
 use Rattle.tree_clock_model.proofs.Laws.{after-length, cycled-either, drain-ran, drain-state, few-levels, plain-rest, works-after}
 use Rattle.promise.specs.Prelude.{leaves, leaves-keep, zero-ran}
@@ -165,7 +165,7 @@ module _ (m levels len : ℕ) (mark : Bool) (ws : List ℕ) where
         ran e true f = some-ready (ended_cycle levels o) o.state e (ap (λ (b : Bool). cond b (levels - 1) 0) f) refl (cycled-fits m levels r (state_of d mark) ws full f)
         ran e false f = none-ready (ended_cycle levels o) (ap (λ (b : Bool). cond b (levels - 1) 0) f)
 
-        go : (t : Bool) → lends levels len ≡ t → (ok : Bool) → Ready (ended_cycle levels (cond (t && ok) o (cycle_outcome (Refused BadShape) ws (state_of d mark)))) len
+        go : (t : Bool) → lends levels len ≡ t → (ok : Bool) → Ready (ended_cycle levels (cond (t && ok) o (cycle_outcome (Err BadShape) ws (state_of d mark)))) len
         go true e true = ran e (has_run o.answer) refl
         go true e false = none-ready _ refl
         go false e ok = none-ready _ refl
@@ -181,7 +181,7 @@ module _ (m levels len : ℕ) (mark : Bool) (ws : List ℕ) where
         ran e true f = some-ready (ended_drain levels o) o.state e (ap (λ (b : Bool). cond b (levels - 1) 0) f) refl (drained-fits m levels budget (state_of d mark) ws full (ltb-true 0 o.cycles f))
         ran e false f = none-ready (ended_drain levels o) (ap (λ (b : Bool). cond b (levels - 1) 0) f)
 
-        go : (t : Bool) → lends levels len ≡ t → (ok : Bool) → Ready (ended_drain levels (cond (t && ok) o (drain_outcome (Refused BadShape) 0 false ws (state_of d mark)))) len
+        go : (t : Bool) → lends levels len ≡ t → (ok : Bool) → Ready (ended_drain levels (cond (t && ok) o (drain_outcome (Err BadShape) 0 false ws (state_of d mark)))) len
         go true e true = ran e (ltb 0 o.cycles) refl
         go true e false = none-ready _ refl
         go false e ok = none-ready _ refl
@@ -191,7 +191,7 @@ module _ (m levels len : ℕ) (mark : Bool) (ws : List ℕ) where
   clear-ready = go (lends levels len) refl (shape_ok m levels (length ws))
     where
       go : (t : Bool) → lends levels len ≡ t → (b : Bool)
-          → Ready (ended_cycle levels (cond t (cond b (cycle_outcome Done (wipe (room m levels) ws) fresh) (cycle_outcome (Refused BadShape) ws (unread mark))) (cycle_outcome (Refused BadShape) ws (unread mark)))) len
+          → Ready (ended_cycle levels (cond t (cond b (cycle_outcome (Ok None) (wipe (room m levels) ws) fresh) (cycle_outcome (Err BadShape) ws (unread mark))) (cycle_outcome (Err BadShape) ws (unread mark)))) len
       go true e true = record { few = lends-few levels len e; within = lends-within levels len e; nodes = λ i h. fresh_at i (omega (arith, h, lends-few levels len e)) }
       go true e false = none-ready _ refl
       go false e b = none-ready _ refl

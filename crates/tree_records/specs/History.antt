@@ -5,7 +5,7 @@ use Rattle.tree_clock_model.specs.Prelude.{Machine, record_count, works_of}
 use Rattle.tree_records.specs.Lent.{lent_cleared, lent_cycled, no_record, readable, record_of, works_read}
 use Rattle.tree_records.specs.declared.Record.{Record}
 use Rattle.promise.specs.Prelude.{Step, leaves, step}
-use Rattle.tree_model.specs.Prelude.{Shape, Some}
+use Rattle.tree_model.specs.Prelude.{Shape, IsWork}
 use Rattle.tree_model.specs.declared.Op.TheVariants.{Nothing}
 use Rattle.tree_model.specs.declared.Work.{Work}
 
@@ -46,7 +46,7 @@ pub record Holds (m levels : ℕ) (x : Memory) (y : Machine) : Type 0 where
 -- one record over a cycle that runs: q is what the level above leaves for it, r what the host handed in, v what it is then
 pub record RecordStep (q : Work) (r v : Record) : Type 0 where
   -- "it loads the next level's record"
-  pub loaded : Some q.op → v ≡ record_of q
+  pub loaded : IsWork q.op → v ≡ record_of q
   -- work done and nothing loaded: "Numbers that a record's kind doesn't use are written 0"
   pub finished : q.op ≡ Nothing → (r.kind ≡ 0 → ⊥) → v ≡ no_record
   -- "A level with nothing to do changes no word": it stands, whatever its numbers

@@ -1,7 +1,7 @@
 -- The clocked tree's calls over records in the host's own memory: "entry points that are lent this slice of records and do what the by-value form does,
 -- record for record" (02 [13]). Each is the by-value call on the records read, and what that leaves is written back.
 use Rattle.std.specs.Prelude.{◌&&◌, ◌-◌}
-use Rattle.laws.specs.Prelude.{Answer, BadShape, Bool, Element, List, Refused, Request, cond, element, eqb, false, get_or, leb, length, ltb, not, replicate, set, suc, true, zero, ℕ}
+use Rattle.laws.specs.Prelude.{Answer, BadShape, Bool, Element, List, Request, cond, element, eqb, false, get_or, leb, length, ltb, not, replicate, set, suc, true, zero, ℕ, Err}
 use Rattle.tree_clock_model.specs.Prelude.{CycleOutcome, DrainOutcome, clocked_cleared, cycled, drains, fresh, has_run, record_count}
 use Rattle.tree_clock_model.specs.declared.State.{State}
 use Rattle.tree_records.specs.declared.Record.{Record}
@@ -109,15 +109,15 @@ module _ (levels : ℕ) (rs : List Record) where
 module _ (m levels : ℕ) (mark : Bool) (rs : List Record) (ws : List ℕ) where
   unfoldable pub lent_cycled : Request → LentOutcome
   lent_cycled r =
-      cond (readable (levels - 1) rs) (lent_of levels rs (cycled m levels r (state_read (levels - 1) rs mark) ws)) (lent_outcome (Refused BadShape) ws rs mark)
+      cond (readable (levels - 1) rs) (lent_of levels rs (cycled m levels r (state_read (levels - 1) rs mark) ws)) (lent_outcome (Err BadShape) ws rs mark)
 
   -- "The state left is that of exactly so many idle cycles" (`drain-cycles` in proofs/)
   unfoldable pub lent_drains : ℕ → LentDrain
   lent_drains budget =
-      cond (readable (levels - 1) rs) (drain_of levels rs (drains m levels budget (state_read (levels - 1) rs mark) ws)) (lent_drain (Refused BadShape) 0 false ws rs mark)
+      cond (readable (levels - 1) rs) (drain_of levels rs (drains m levels budget (state_read (levels - 1) rs mark) ws)) (lent_drain (Err BadShape) 0 false ws rs mark)
 
   -- a clear reads no record
   unfoldable pub lent_cleared : LentOutcome
   lent_cleared =
       cond (leb (levels - 1) (length rs)) (lent_of levels rs (clocked_cleared m levels (record { records = fresh.records; mark = mark }) ws))
-      (lent_outcome (Refused BadShape) ws rs mark)
+      (lent_outcome (Err BadShape) ws rs mark)

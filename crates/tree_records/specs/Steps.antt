@@ -1,6 +1,6 @@
 -- What the code between the slice and the by-value calls asks and says.
 use Rattle.std.specs.Prelude.{◌&&◌, ◌-◌, ◌<◌, ◌≤◌}
-use Rattle.laws.specs.Prelude.{Answer, BadShape, Bool, List, Refused, Request, cond, false, get_or, leb, ltb, ℕ}
+use Rattle.laws.specs.Prelude.{Answer, BadShape, Bool, List, Request, cond, false, get_or, leb, ltb, ℕ, Err}
 use Rattle.tree_clock_model.specs.Prelude.{CycleOutcome, DrainOutcome, clocked_cleared, cycle_outcome, cycled, drain_outcome, drains, fresh, has_run, record_count}
 use Rattle.tree_clock_model.specs.declared.State.{State}
 use Rattle.tree_records.specs.Lent.{kinds_ok, record_of, works_read}
@@ -40,13 +40,13 @@ unread mark = record { records = fresh.records; mark = mark }
 -- ---- the by-value calls on what was read from a slice of so many records
 module _ (m levels len : ℕ) (mark : Bool) (ws : List ℕ) where
   unfoldable pub cycle_from : Read → Request → CycleOutcome
-  cycle_from d r = cond (lends levels len && d.ok) (cycled m levels r (state_of d mark) ws) (cycle_outcome (Refused BadShape) ws (state_of d mark))
+  cycle_from d r = cond (lends levels len && d.ok) (cycled m levels r (state_of d mark) ws) (cycle_outcome (Err BadShape) ws (state_of d mark))
 
   unfoldable pub drain_from : Read → ℕ → DrainOutcome
-  drain_from d budget = cond (lends levels len && d.ok) (drains m levels budget (state_of d mark) ws) (drain_outcome (Refused BadShape) 0 false ws (state_of d mark))
+  drain_from d budget = cond (lends levels len && d.ok) (drains m levels budget (state_of d mark) ws) (drain_outcome (Err BadShape) 0 false ws (state_of d mark))
 
   unfoldable pub clear_from : CycleOutcome
-  clear_from = cond (lends levels len) (clocked_cleared m levels (unread mark) ws) (cycle_outcome (Refused BadShape) ws (unread mark))
+  clear_from = cond (lends levels len) (clocked_cleared m levels (unread mark) ws) (cycle_outcome (Err BadShape) ws (unread mark))
 
 -- ---- what is left, and how many records are to be written
 abbrev pub ended : Answer → ℕ → Bool → State → ℕ → Ended

@@ -19,7 +19,7 @@ pub fn cycle_read(
 ) -> Ended
     ensures { (store.new ≡ (cycle_from order levels len mark store.old read request).words) × (result ≡ ended_cycle levels (cycle_from order levels len mark store.old read request)) }
 {
-    let works = read.works;
+    let works = read.works; // tried in place: no proof, since an array is not moved from a field into a literal
     let state = State {
         records: works,
         mark,
@@ -28,9 +28,8 @@ pub fn cycle_read(
         return refused(state);
     }
     let c = cycle(store, order, levels, state, request);
-    let answer = c.answer;
-    let next = c.state;
-    ended_by(answer, 0, false, next, due(has_run(answer), levels))
+    let written = due(has_run(c.answer), levels);
+    ended_by(c.answer, 0, false, c.state, written)
 }
 
 // A drain on what was read of a slice of `len` records.
@@ -45,7 +44,7 @@ pub fn drain_read(
 ) -> Ended
     ensures { (store.new ≡ (drain_from order levels len mark store.old read budget).words) × (result ≡ ended_drain levels (drain_from order levels len mark store.old read budget)) }
 {
-    let works = read.works;
+    let works = read.works; // tried in place: no proof, since an array is not moved from a field into a literal
     let state = State {
         records: works,
         mark,
@@ -54,10 +53,8 @@ pub fn drain_read(
         return refused(state);
     }
     let d = drain(store, order, levels, state, budget);
-    let answer = d.answer;
-    let cycles = d.cycles;
-    let next = d.state;
-    ended_by(answer, cycles, d.left, next, due(0 < cycles, levels))
+    let written = due(0 < d.cycles, levels);
+    ended_by(d.answer, d.cycles, d.left, d.state, written)
 }
 
 // A clear beside a slice of `len` records, none of which it reads.
@@ -69,9 +66,7 @@ pub fn clear_beside(store: &mut [u32], order: usize, levels: usize, len: usize, 
     if !is_lent(levels, len) {
         return refused(state);
     }
-    let c = clear(store, order, levels, state);
-    let answer = c.answer;
-    let next = c.state;
-    let written = due(has_run(answer), levels);
-    ended_by(answer, 0, false, next, written)
+    let cleared = clear(store, order, levels, state);
+    let written = due(has_run(cleared.answer), levels);
+    ended_by(cleared.answer, 0, false, cleared.state, written)
 }

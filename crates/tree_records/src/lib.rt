@@ -3,19 +3,19 @@
 #![tactic(auto)]
 
 ghost use Rattle.std.specs.Prelude.{◌≡◌, cond, false, ◌-◌, ◌<◌, leb};
-ghost use Rattle.strip.specs.Answers.{number_of};
-ghost use Rattle.tree_model.specs.Levels.{idle};
 ghost use Rattle.tree_records.specs.Lent.{work_of, bare_record, laden_record, record_of, stands, handed};
-ghost use Rattle.tree_records.specs.Steps.{word_limit, lends, reach, read, ended};
+ghost use Rattle.tree_records.specs.Steps.{word_limit, lends, reach, ended};
 
 pub mod calls;
 pub mod memory;
 
-use strip::{Answer, Element, Length, Rank, Refusal, Tag, number};
+use strip::{Answer, Element, Refusal, element_of};
+use tree_clock_level::records::is_idle;
 use tree_clock_model::{RECORDS, State};
 use tree_model::{Op, Work};
 
-// A pending record as the host keeps it: kind 0 nothing, 1 put, 2 take, 3 swap; a node; an element's rank, tag and length.
+// A pending record as the host keeps it: kind 0 nothing, 1 put, 2 take, 3 swap; a node; an element's rank, tag and length. It stays in numbers,
+// since C has it so.
 #[repr(C)]
 #[derive(Clone, Copy)]
 pub struct Record {
@@ -26,7 +26,8 @@ pub struct Record {
     pub length: u32,
 }
 
-// What was read of the records: the work of each, and whether all the kinds are kinds.
+// What was read of the records: the work of each, and whether all the kinds are kinds. It is no Option, since the works are promised where a
+// kind is none too (`cycle_from`, `drain_from`).
 #[derive(Clone, Copy)]
 pub struct Read {
     pub works: [Work; RECORDS],
@@ -47,56 +48,44 @@ pub struct Ended {
 // ---- reading
 
 // Whether some tree has so many levels, and a slice of so many records has one for each level from 2.
+#[tactic(auto, unfolding(crate::specs::Steps::lends))]
 pub fn is_lent(levels: usize, len: usize) -> bool
     ensures { result ≡ lends levels len }
 {
-    if levels == 0 {
-        return false;
-    }
-    (levels - 1 <= RECORDS) & (levels - 1 <= len)
+    levels != 0 && levels - 1 <= RECORDS && levels - 1 <= len
 }
 
 // How many records are read.
+#[tactic(auto, unfolding(crate::specs::Steps::lends))]
 pub fn reached(levels: u32, len: usize) -> usize
     ensures { result ≡ reach levels len }
 {
-    let l = levels as usize;
-    if is_lent(l, len) {
-        return l - 1;
-    }
-    0
+    let levels = levels as usize;
+    if is_lent(levels, len) { levels - 1 } else { 0 }
 }
 
 // The work that a record holds; the numbers that its kind does not use are not read.
+#[tactic(auto, unfolding(crate::specs::Lent::work_of))]
 pub fn work_of(r: Record) -> Work
     ensures { result ≡ work_of r }
 {
-    let kind = r.kind;
     let node = r.node as usize;
-    let x = Element {
-        rank: Rank(r.rank),
-        tag: Tag(r.tag),
-        length: Length(r.length),
-    };
-    if kind == 1 {
-        return Work {
+    let x = element_of(r.rank, r.tag, r.length);
+    match r.kind {
+        1 => Work {
             op: Op::Put(x),
             node,
-        };
-    }
-    if kind == 2 {
-        return Work { op: Op::Take, node };
-    }
-    if kind == 3 {
-        return Work {
+        },
+        2 => Work { op: Op::Take, node },
+        3 => Work {
             op: Op::Swap(x),
             node,
-        };
-    }
-    // no cycle writes this number, so that it tells afterwards that the record stands
-    Work {
-        op: Op::Nothing,
-        node: 1,
+        },
+        // no cycle writes this number, so that it tells afterwards that the record stands
+        _ => Work {
+            op: Op::Nothing,
+            node: 1,
+        },
     }
 }
 
@@ -105,22 +94,6 @@ pub fn is_kind(r: Record) -> bool
     ensures { result ≡ leb r.kind 3 }
 {
     r.kind <= 3
-}
-
-// Where no record was read.
-pub fn no_work() -> Work
-    ensures { result ≡ idle }
-{
-    Work {
-        op: Op::Nothing,
-        node: 0,
-    }
-}
-
-pub fn read_of(works: [Work; RECORDS], ok: bool) -> Read
-    ensures { result ≡ read works ok }
-{
-    Read { works, ok }
 }
 
 // ---- what a by-value call leaves
@@ -138,32 +111,18 @@ pub fn ended_by(answer: Answer, cycles: usize, left: bool, state: State, count: 
 }
 
 pub fn refused(state: State) -> Ended
-    ensures { result ≡ ended (Answer.Refused Refusal.BadShape) 0 false state 0 }
+    ensures { result ≡ ended (Err Refusal.BadShape) 0 false state 0 }
 {
-    ended_by(Answer::Refused(Refusal::BadShape), 0, false, state, 0)
+    ended_by(Err(Refusal::BadShape), 0, false, state, 0)
 }
 
 // ---- writing
-
-// How many records are to be written.
-pub fn count_of(t: Ended) -> usize
-    ensures { result ≡ t.count }
-{
-    t.count
-}
-
-pub fn works_of(t: Ended) -> [Work; RECORDS]
-    ensures { result ≡ t.state.records }
-{
-    t.state.records
-}
 
 fn record_of(w: Work) -> Record
     requires { (record_of w).node < word_limit }
     ensures { result ≡ record_of w }
 {
-    let op = w.op;
-    match op {
+    match w.op {
         Op::Nothing => bare(0, 0),
         Op::Put(x) => laden(1, w.node as u32, x),
         Op::Take => bare(2, w.node as u32),
@@ -188,32 +147,23 @@ fn bare(kind: u32, node: u32) -> Record
 fn laden(kind: u32, node: u32, x: Element) -> Record
     ensures { result ≡ laden_record kind node x }
 {
-    let rank = x.rank.0;
-    let tag = x.tag.0;
-    let length = x.length.0;
     Record {
         kind,
         node,
-        rank,
-        tag,
-        length,
+        rank: x.rank.0,
+        tag: x.tag.0,
+        length: x.length.0,
     }
 }
 
 fn is_standing(w: Work) -> bool
     ensures { result ≡ stands w }
 {
-    let op = w.op;
-    let node = w.node;
-    match op {
-        Op::Nothing => node != 0,
-        Op::Put(_) => false,
-        Op::Take => false,
-        Op::Swap(_) => false,
-    }
+    is_idle(w) && w.node != 0
 }
 
 // What a record of the host's becomes.
+#[tactic(auto, unfolding(crate::specs::Lent::handed))]
 pub fn returned(r: Record, w: Work) -> Record
     requires { (record_of w).node < word_limit }
     ensures { result ≡ handed r w }
@@ -222,13 +172,4 @@ pub fn returned(r: Record, w: Work) -> Record
         return r;
     }
     record_of(w)
-}
-
-// ---- what is answered
-
-pub fn number_of(t: Ended) -> u32
-    ensures { result ≡ number_of t.answer }
-{
-    let answer = t.answer;
-    number(answer)
 }

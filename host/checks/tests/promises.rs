@@ -85,12 +85,12 @@ impl Sources {
         self.files.keys().filter_map(|path| path.split_once('/')).map(|(name, _)| name.to_string()).collect()
     }
 
-    /// What stands behind some words at the start of a line in a crate's code, up to a parenthesis or a semicolon.
+    /// What stands behind some words at the start of a line in a crate's code, up to a parenthesis, a semicolon or type parameters.
     fn behind(&self, name: &str, words: &str) -> Names {
         let (folder, words) = (format!("{name}/src/"), format!("\n{words}"));
         let texts = self.files.iter().filter(|(path, _)| path.starts_with(&folder)).map(|(_, text)| text);
         let items = texts.flat_map(|text| text.split(&words).skip(1));
-        items.filter_map(|rest| rest.split(|c| "(;".contains(c)).next()).map(String::from).collect()
+        items.filter_map(|rest| rest.split(|c| "(;<".contains(c)).next()).map(String::from).collect()
     }
 
     /// The public functions of a crate, and those of others that it passes on.

@@ -8,8 +8,6 @@ use Rattle.bucket.proofs.Steps.{stands}
 use Rattle.bucket.proofs.held_laid.Goals as goal
 use Rattle.bucket.proofs.held_laid.Goals.{Else-not-is_shaped, Else-not-is_whole}
 
--- places on the way, each from a later one
-
 -- what has been tested so far
 ok : (c : Else-not-is_shaped) → is_shaped c.args.k c.args.bits.now c.args.words.now ≡ true
 ok c = sym c.is_shaped.ensures ∙ not-false c.is_shaped.result c.if-not-is_shaped.false-raw

@@ -3,7 +3,7 @@ use Rattle.laws.specs.Prelude.{◌-◌, ◌∙◌, ap, arith, length, refl}
 use Rattle.bucket_model.specs.Prelude.{popped}
 use Rattle.bucket_model.proofs.Laws.{pop-bad}
 use Rattle.bucket.proofs.Steps.{queue-placed}
-use Rattle.bucket_step.proofs.Depths.{undeep, at-lay, none-gone, gone-here, gone-on, all-gone}
+use Rattle.bucket_step.proofs.Depths.{undeep, at-lay, none-gone, gone-here, gone-on, gone-all}
 use Rattle.bucket.proofs.pop.Goals as goal
 use Rattle.bucket.proofs.pop.Invariants.{call}
 use Rattle.bucket.proofs.pop.Goals.{else-d-storeys, then-d-storeys}
@@ -33,4 +33,4 @@ shape_of-words c = c.loop-d.invariant.3
 pub returns : goal.returns
 returns c =
     let a = c.args in
-    all-gone (call a.n) a.storeys _ _ c.loop-d.d _ (omega arith) (λ e. pop-bad _ _ _ (undeep a.storeys a.n a.bits.now a.words.now e)) c.loop-d.invariant.4
+    gone-all (call a.n) a.storeys _ _ c.loop-d.d _ (omega arith) (λ e. pop-bad _ _ _ (undeep a.storeys a.n a.bits.now a.words.now e)) c.loop-d.invariant.4

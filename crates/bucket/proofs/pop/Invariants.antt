@@ -9,6 +9,3 @@ call n d b w = popped (queue d n) b w
 
 abbrev pub invariant-loop-d : goal.invariant-loop-d
 invariant-loop-d l = (least_storeys ≤ l.d) × (l.d ≤ most_storeys + 1) × (length l.bits ≡ length l.initial.bits) × (length l.words ≡ length l.initial.words) × Gone (call l.n) l.storeys l.initial.bits l.initial.words l.d (outcome l.answer l.bits l.words)
-
-abbrev pub decreases-loop-d : goal.decreases-loop-d
-decreases-loop-d l = most_storeys + 1 - l.d

@@ -3,8 +3,5 @@ use Rattle.laws.specs.Prelude.{◌-◌}
 use Rattle.bucket_bits.proofs.Up.{Climbing}
 use Rattle.bucket_bits.proofs.agreement.Given as goal
 
-abbrev pub invariant-loop-c : goal.invariant-loop-c
-invariant-loop-c l = Climbing l.bits l.base l.storeys l.clears l.gone l.empty l.own l.c l.d l.g l.i
-
-abbrev pub decreases-loop-c : goal.decreases-loop-c
-decreases-loop-c l = l.d
+abbrev pub invariant-loop : goal.invariant-loop
+invariant-loop l = Climbing l.bits l.base l.storeys l.clears l.gone l.empty l.own l.c (l.storeys - l.counter) l.g l.i

@@ -12,14 +12,14 @@ queue_of-k-requires-clause-least c = (deep_of c.args.storeys (sym c.is_deep.ensu
 pub queue_of-k-requires-clause-most : goal.queue_of-k-requires-clause-most
 queue_of-k-requires-clause-most c = (deep_of c.args.storeys (sym c.is_deep.ensures ∙ not-false c.is_deep.result c.if-not-is_deep.false-raw)).1
 
-pub is_shaped-shaped-requires : goal.is_shaped-shaped-requires
-is_shaped-shaped-requires c = omega (arith, few c.args.storeys c.args.n c.queue_of-k.result (deep_of c.args.storeys (sym c.is_deep.ensures ∙ not-false c.is_deep.result c.if-not-is_deep.false-raw)).0 (deep_of c.args.storeys (sym c.is_deep.ensures ∙ not-false c.is_deep.result c.if-not-is_deep.false-raw)).1 c.queue_of-k.ensures)
+pub is_shaped-requires : goal.is_shaped-requires
+is_shaped-requires c = omega (arith, few c.args.storeys c.args.n c.queue_of-k.result (deep_of c.args.storeys (sym c.is_deep.ensures ∙ not-false c.is_deep.result c.if-not-is_deep.false-raw)).0 (deep_of c.args.storeys (sym c.is_deep.ensures ∙ not-false c.is_deep.result c.if-not-is_deep.false-raw)).1 c.queue_of-k.ensures)
 
-pub overflow_add-least : goal.overflow_add-least
-overflow_add-least c = omega (arith, few c.args.storeys c.args.n c.queue_of-k.result (deep_of c.args.storeys (sym c.is_deep.ensures ∙ not-false c.is_deep.result c.if-not-is_deep.false-raw)).0 (deep_of c.args.storeys (sym c.is_deep.ensures ∙ not-false c.is_deep.result c.if-not-is_deep.false-raw)).1 c.queue_of-k.ensures)
+pub overflow_add-result : goal.overflow_add-result
+overflow_add-result c = omega (arith, few c.args.storeys c.args.n c.queue_of-k.result (deep_of c.args.storeys (sym c.is_deep.ensures ∙ not-false c.is_deep.result c.if-not-is_deep.false-raw)).0 (deep_of c.args.storeys (sym c.is_deep.ensures ∙ not-false c.is_deep.result c.if-not-is_deep.false-raw)).1 c.queue_of-k.ensures)
 
-pub overflow_mul-least : goal.overflow_mul-least
-overflow_mul-least c = omega (arith, few c.args.storeys c.args.n c.queue_of-k.result (deep_of c.args.storeys (sym c.is_deep.ensures ∙ not-false c.is_deep.result c.if-not-is_deep.false-raw)).0 (deep_of c.args.storeys (sym c.is_deep.ensures ∙ not-false c.is_deep.result c.if-not-is_deep.false-raw)).1 c.queue_of-k.ensures)
+pub overflow_mul-result : goal.overflow_mul-result
+overflow_mul-result c = omega (arith, few c.args.storeys c.args.n c.queue_of-k.result (deep_of c.args.storeys (sym c.is_deep.ensures ∙ not-false c.is_deep.result c.if-not-is_deep.false-raw)).0 (deep_of c.args.storeys (sym c.is_deep.ensures ∙ not-false c.is_deep.result c.if-not-is_deep.false-raw)).1 c.queue_of-k.ensures)
 
 pub returns : goal.returns
-returns c = lent_is c.args.storeys c.args.n c.args.bits.now c.args.counts.now c.args.words.now _ _ c.queue_of-k.ensures c.is_shaped-shaped.ensures
+returns c = lent_is c.args.storeys c.args.n c.args.bits.now c.args.counts.now c.args.words.now _ _ c.queue_of-k.ensures c.is_shaped.ensures

@@ -1,9 +1,6 @@
 use Rattle.bucket_clock_records.specs.Lent.{works_back}
-use Rattle.laws.specs.Prelude.{◌-◌, ◌≤◌, ◌≡◌}
+use Rattle.laws.specs.Prelude.{◌≡◌}
 use Rattle.bucket_clock_records.proofs.hand_back.Given as goal
 
 abbrev pub invariant-loop-i : goal.invariant-loop-i
-invariant-loop-i l = (l.i ≤ l.n) × (l.records ≡ works_back l.i l.works l.initial.records)
-
-abbrev pub decreases-loop-i : goal.decreases-loop-i
-decreases-loop-i l = l.n - l.i
+invariant-loop-i l = l.records ≡ works_back l.i l.works l.fn.records

@@ -6,4 +6,4 @@ pub returns-then-out-lt-OUT : goal.returns-then-out-lt-OUT
 returns-then-out-lt-OUT c = store-short _ _ _ c.if-out-lt-OUT.true
 
 pub returns : goal.returns
-returns c = store_told _ _ _ _ _ _ _ c.if-out-lt-OUT.false c.replace-answer.ensures c.tell.ensures
+returns c = store_told _ _ _ _ _ _ _ c.if-out-lt-OUT.false (rw c.element_of-x.ensures at c.replace-answer.ensures) c.tell.ensures

@@ -1,4 +1,5 @@
 -- `card_tree_clock::cycle_told` meets its contract.
+use Rattle.laws.specs.Prelude.{◌≡◌, cond, rules}
 use Rattle.card_tree_clock.proofs.Clocked.{cycle-done, cycle-refused, cycle-short}
 use Rattle.card_words.proofs.Asked.{asked-some}
 use Rattle.card_tree_clock.proofs.cycle_told.Goals as goal
@@ -16,4 +17,6 @@ pub bounds-mark-0-2 : goal.bounds-mark-0-2
 bounds-mark-0-2 c = asked-some c.args.mark.now _ _ c.is_asked.ensures c.if-not-is_asked.false-raw
 
 pub returns : goal.returns
-returns c = cycle-done _ _ _ _ _ _ _ _ _ _ _ c.if-out-lt-OUT.false _ c.is_asked.ensures c.if-not-is_asked.false-raw _ c.request_of-q.ensures _ _ c.cycle_read-ended.ensures _ c.bit.ensures _ c.tell.ensures.1
+returns c =
+    let on : c.from.result ≡ cond c.cycle_read-ended.result.state.mark 1 0 = search rules in
+    cycle-done _ _ _ _ _ _ _ _ _ _ _ c.if-out-lt-OUT.false _ c.is_asked.ensures c.if-not-is_asked.false-raw _ c.request_of-q.ensures _ _ c.cycle_read-ended.ensures _ on _ c.tell.ensures.1

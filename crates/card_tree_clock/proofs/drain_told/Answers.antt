@@ -1,5 +1,5 @@
 -- `card_tree_clock::drain_told` meets its contract.
-use Rattle.laws.specs.Prelude.{◌≤◌, arith}
+use Rattle.laws.specs.Prelude.{◌≡◌, ◌≤◌, arith, cond, rules}
 use Rattle.card_tree_clock.proofs.Clocked.{drain-done, drain-few, drain-refused, drain-short}
 use Rattle.card_words.proofs.Asked.{marked-some}
 use Rattle.card_tree_clock.proofs.drain_told.Goals as goal
@@ -20,4 +20,6 @@ pub overflow_cast-ended : goal.overflow_cast-ended
 overflow_cast-ended c = let few : c.drain_read-ended.result.cycles ≤ c.args.budget = drain-few _ _ _ _ _ _ _ _ c.drain_read-ended.ensures.1 in omega (arith, few)
 
 pub returns : goal.returns
-returns c = drain-done _ _ _ _ _ _ _ _ c.if-out-lt-DRAIN_OUT.false _ c.is_marked.ensures _ _ c.drain_read-ended.ensures c.if-not-is_marked.false-raw _ c.bit.ensures _ c.tell_drain-2.ensures
+returns c =
+    let on : c.from.result ≡ cond c.drain_read-ended.result.state.mark 1 0 = search rules in
+    drain-done _ _ _ _ _ _ _ _ c.if-out-lt-DRAIN_OUT.false _ c.is_marked.ensures _ _ c.drain_read-ended.ensures c.if-not-is_marked.false-raw _ on _ c.tell_drain-2.ensures

@@ -2,4 +2,4 @@
 use Rattle.card_words.proofs.tell.Goals as goal
 
 pub returns : goal.returns
-returns c = (c.number.ensures, rw (← c.given-e.ensures) c.write_element.ensures)
+returns c = (c.number.ensures, rw (← c.given.ensures) c.write_element.ensures)

@@ -2,7 +2,7 @@ use Rattle.laws.specs.Prelude.{◌+◌, ◌<◌, ◌∙◌, ◌≡◌, ◌≤◌
 use Rattle.cluster_node.specs.Leaf.{Lies, Under}
 use Rattle.cluster.proofs.Downs.{put-within, put_under, goes-ready, high-in, put-leaf, put-end, put-bad, put_full, put-stop, put-done, put-counts}
 use Rattle.cluster.proofs.+put.Goals as goal
-use Rattle.cluster.proofs.+put.Goals.{After-high_lead-f, Else-left-eq0, Else-limit-wide-2, Start}
+use Rattle.cluster.proofs.+put.Goals.{After-high_lead-f, Else-left-eq0, Else-limit-fewer, Start}
 
 -- the node lies within the words
 lies : (t : ℕ) (c : Start t) → Lies c.args.k c.args.at (length c.args.s.now)
@@ -18,9 +18,9 @@ high t c =
     high-in c.args.s.now (c.args.at + 2) c.args.k c.high_lead-f.result (omega (arith, lies t (goal.at.After-high_lead-f t c).Start)) c.high_lead-f.ensures
 
 -- where the element goes on, both counts have been tested
-counts : (t : ℕ) (c : Else-limit-wide-2 t) → (get_or c.args.s.now c.args.at 0 ≤ 5460) × (get_or c.args.s.now (c.args.at + 1) 0 ≤ 5460)
+counts : (t : ℕ) (c : Else-limit-fewer t) → (get_or c.args.s.now c.args.at 0 ≤ 5460) × (get_or c.args.s.now (c.args.at + 1) 0 ≤ 5460)
 counts t c =
-    put-counts _ c.args.left c.requires.node _ c.args.x _ _ c.requires.begins _ c.high_lead-f.ensures c.if-not-f.false (lies t (goal.at.Else-limit-wide-2 t c).Start).some _ (c.wide.ensures ∙ c.choose_word-more.ensures) c.if-limit-wide.false c.requires.small
+    put-counts _ c.args.left c.requires.node _ c.args.x _ _ c.requires.begins _ c.high_lead-f.ensures c.if-not-f.false (lies t (goal.at.Else-limit-fewer t c).Start).some _ c.choose-more.ensures c.if-limit-more.false c.requires.small
 
 pub put_end-requires : goal.put_end-requires
 put_end-requires t c = lies t (goal.at.put_end-requires t c).Start
@@ -61,17 +61,17 @@ offset_bounds-s-at-2 t c = omega (arith, lies t (goal.at.offset_bounds-s-at-2 t 
 pub bounds-s-at-2 : goal.bounds-s-at-2
 bounds-s-at-2 t c = omega (arith, lies t (goal.at.bounds-s-at-2 t c).Start)
 
-pub shape_of-s-then-limit-wide : goal.shape_of-s-then-limit-wide
-shape_of-s-then-limit-wide t c = refl
+pub shape_of-s-then-limit-more : goal.shape_of-s-then-limit-more
+shape_of-s-then-limit-more t c = refl
 
-pub returns-then-limit-wide : goal.returns-then-limit-wide
-returns-then-limit-wide t c = λ m e. put-bad _ _ m _ _ _ _ e _ c.high_lead-f.ensures c.if-not-f.false (lies t (goal.at.returns-then-limit-wide t c).Start).some _ (c.wide.ensures ∙ c.choose_word-more.ensures) c.if-limit-wide.true
+pub returns-then-limit-more : goal.returns-then-limit-more
+returns-then-limit-more t c = λ m e. put-bad _ _ m _ _ _ _ e _ c.high_lead-f.ensures c.if-not-f.false (lies t (goal.at.returns-then-limit-more t c).Start).some _ c.choose-more.ensures c.if-limit-more.true
 
-pub shape_of-s-then-limit-wide-2 : goal.shape_of-s-then-limit-wide-2
-shape_of-s-then-limit-wide-2 t c = refl
+pub shape_of-s-then-limit-fewer : goal.shape_of-s-then-limit-fewer
+shape_of-s-then-limit-fewer t c = refl
 
-pub returns-then-limit-wide-2 : goal.returns-then-limit-wide-2
-returns-then-limit-wide-2 t c = λ m e. put_full _ _ m _ _ _ _ e _ c.high_lead-f.ensures c.if-not-f.false (lies t (goal.at.returns-then-limit-wide-2 t c).Start).some _ (c.wide.ensures ∙ c.choose_word-more.ensures) c.if-limit-wide.false c.if-left-eq0.false _ (c.wide-2.ensures ∙ c.choose_word-fewer.ensures) c.if-limit-wide-2.true
+pub returns-then-limit-fewer : goal.returns-then-limit-fewer
+returns-then-limit-fewer t c = λ m e. put_full _ _ m _ _ _ _ e _ c.high_lead-f.ensures c.if-not-f.false (lies t (goal.at.returns-then-limit-fewer t c).Start).some _ c.choose-more.ensures c.if-limit-more.false c.if-left-eq0.false _ c.choose-fewer.ensures c.if-limit-fewer.true
 
 pub overflow_mul-width : goal.overflow_mul-width
 overflow_mul-width t c = omega (arith, under t (goal.at.overflow_mul-width t c).Else-left-eq0)
@@ -110,10 +110,10 @@ pub shape_of-s-then-not-done : goal.shape_of-s-then-not-done
 shape_of-s-then-not-done t c = c.put-done.auto.s
 
 pub returns-then-not-done : goal.returns-then-not-done
-returns-then-not-done t c = λ m e. put-stop _ _ m _ _ _ _ e _ c.high_lead-f.ensures c.if-not-f.false (lies t (goal.at.returns-then-not-done t c).Start).some _ (c.wide.ensures ∙ c.choose_word-more.ensures) c.if-limit-wide.false c.if-left-eq0.false _ (c.wide-2.ensures ∙ c.choose_word-fewer.ensures) c.if-limit-wide-2.false _ c.choose-d.ensures _ c.room_under-below.ensures (λ i. omega (arith, c.slice_known-1.given i)) _ c.elem_at-e.ensures _ _ c.stays-kept.ensures c.goes_down-goes.ensures _ _ c.put-done.ensures c.if-not-done.true-raw
+returns-then-not-done t c = λ m e. put-stop _ _ m _ _ _ _ e _ c.high_lead-f.ensures c.if-not-f.false (lies t (goal.at.returns-then-not-done t c).Start).some _ c.choose-more.ensures c.if-limit-more.false c.if-left-eq0.false _ c.choose-fewer.ensures c.if-limit-fewer.false _ c.choose-d.ensures _ c.room_under-below.ensures (λ i. omega (arith, (goal.at.returns-then-not-done t c).Else-limit-fewer.type_inv.s i)) _ c.elem_at-e.ensures _ _ c.stays-kept.ensures c.goes_down-goes.ensures _ _ c.put-done.ensures c.if-not-done.true-raw
 
 pub raise-requires : goal.raise-requires
-raise-requires t c = (omega (arith, lies t (goal.at.raise-requires t c).Start, c.put-done.auto.s), (counts t (goal.at.raise-requires t c).Else-limit-wide-2).0, (counts t (goal.at.raise-requires t c).Else-limit-wide-2).1)
+raise-requires t c = (omega (arith, lies t (goal.at.raise-requires t c).Start, c.put-done.auto.s), (counts t (goal.at.raise-requires t c).Else-limit-fewer).0, (counts t (goal.at.raise-requires t c).Else-limit-fewer).1)
 
 pub set_place-requires : goal.set_place-requires
 set_place-requires t c = omega (arith, lies t (goal.at.set_place-requires t c).Start, high t (goal.at.set_place-requires t c).After-high_lead-f, c.put-done.auto.s, c.raise.auto.s)
@@ -122,4 +122,4 @@ pub shape_of-s : goal.shape_of-s
 shape_of-s t c = c.set_place.auto.s ∙ c.raise.auto.s ∙ c.put-done.auto.s
 
 pub returns : goal.returns
-returns t c = λ m e. put-done _ _ m _ _ _ _ e _ c.high_lead-f.ensures c.if-not-f.false (lies t (goal.at.returns t c).Start).some _ (c.wide.ensures ∙ c.choose_word-more.ensures) c.if-limit-wide.false c.if-left-eq0.false _ (c.wide-2.ensures ∙ c.choose_word-fewer.ensures) c.if-limit-wide-2.false _ c.choose-d.ensures _ c.room_under-below.ensures (λ i. omega (arith, c.slice_known-1.given i)) _ c.elem_at-e.ensures _ _ c.stays-kept.ensures c.goes_down-goes.ensures _ _ c.put-done.ensures c.if-not-done.false-raw _ _ c.raise.ensures c.set_place.ensures
+returns t c = λ m e. put-done _ _ m _ _ _ _ e _ c.high_lead-f.ensures c.if-not-f.false (lies t (goal.at.returns t c).Start).some _ c.choose-more.ensures c.if-limit-more.false c.if-left-eq0.false _ c.choose-fewer.ensures c.if-limit-fewer.false _ c.choose-d.ensures _ c.room_under-below.ensures (λ i. omega (arith, (goal.at.returns t c).Else-limit-fewer.type_inv.s i)) _ c.elem_at-e.ensures _ _ c.stays-kept.ensures c.goes_down-goes.ensures _ _ c.put-done.ensures c.if-not-done.false-raw _ _ c.raise.ensures c.set_place.ensures

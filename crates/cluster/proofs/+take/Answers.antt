@@ -1,8 +1,8 @@
-use Rattle.laws.specs.Prelude.{◌∙◌, ◌≡◌, arith, length, refl, true, ℕ}
+use Rattle.laws.specs.Prelude.{subst, sym, ◌∙◌, ◌≡◌, arith, length, refl, ℕ}
 use Rattle.cluster_node.specs.Leaf.{ChoiceFrom, Lies, Under}
-use Rattle.cluster.proofs.Downs.{take_within, take-under, child-ready, scanned, choice-four, choice-none, choice-any, choice-first, take-zero, take_bare, take-bad, take-stop, take_done}
+use Rattle.cluster.proofs.Downs.{take_within, take-under, child-ready, scanned, Made, choice-four, choice-none, choice-any, choice-first, take-zero, take_bare, take-bad, take-stop, take_done}
 use Rattle.cluster.proofs.+take.Goals as goal
-use Rattle.cluster.proofs.+take.Goals.{Else-left-eq0, Joined-k-eq4, Joined-not-c, Start, else-k-eq4, else-not-c, then-k-eq4, then-not-c}
+use Rattle.cluster.proofs.+take.Goals.{Else-left-eq0, Joined-four, Joined-k-eq4, Start, else-k-eq4, in-None, in-Some, then-k-eq4}
 
 -- the node lies within the words
 lies : (t : ℕ) (c : Start t) → Lies c.args.k c.args.at (length c.args.s.now)
@@ -13,12 +13,12 @@ under : (t : ℕ) (c : Else-left-eq0 t) → Under c.args.k c.args.at (length c.a
 under t c = take-under _ _ _ _ _ c.requires c.if-left-eq0.false
 
 -- a choice of two full children, if one was made
-first : (t : ℕ) (c : Joined-k-eq4 t) → c.if-k-eq4.c.ok ≡ true → ChoiceFrom c.args.k c.room_under-below.result c.args.s.now c.args.at c.if-k-eq4.c
-first t c = elim c.if-k-eq4.branch [ then-k-eq4 w ↦ choice-four _ _ _ _ _ _ w.if-k-eq4.true w.choice_full-c.ensures w.c-is | else-k-eq4 w ↦ choice-none _ _ _ _ _ _ c.no_choice-c.ensures w.c-is ]
+first : (t : ℕ) (c : Joined-k-eq4 t) → Made c.args.k c.room_under-below.result c.args.s.now c.args.at c.if-k-eq4.four
+first t c = elim c.if-k-eq4.branch [ then-k-eq4 w ↦ subst (Made _ _ _ _) (sym w.four-is) (choice-four _ _ _ _ _ w.if-k-eq4.true w.choice_full-four.ensures) | else-k-eq4 w ↦ choice-none _ _ _ _ _ w.four-is ]
 
 -- .. or else of any
-chosen : (t : ℕ) (c : Joined-not-c t) → ChoiceFrom c.args.k c.room_under-below.result c.args.s.now c.args.at c.if-not-c.c
-chosen t c = elim c.if-not-c.branch [ then-not-c w ↦ choice-any _ _ _ _ _ _ w.choice-c.ensures w.c-is | else-not-c w ↦ choice-first _ _ _ _ _ _ (first t (goal.at.Joined-not-c t c).Joined-k-eq4) w.if-not-c.false w.c-is ]
+chosen : (t : ℕ) (c : Joined-four t) → ChoiceFrom c.args.k c.room_under-below.result c.args.s.now c.args.at c.match-four.c
+chosen t c = elim c.match-four.branch [ in-None w ↦ choice-any _ _ _ _ _ _ w.choice-c.ensures w.c-is | in-Some w ↦ choice-any _ _ _ _ _ _ (choice-first _ _ _ _ _ _ (first t (goal.at.Joined-four t c).Joined-k-eq4) w.in-Some.is) w.c-is ]
 
 pub overflow_add-i : goal.overflow_add-i
 overflow_add-i t c = omega (arith, lies t (goal.at.overflow_add-i t c).Start)
@@ -68,17 +68,17 @@ overflow_add-at-then-k-eq4-3 t c = omega (arith, under t (goal.at.overflow_add-a
 pub low_four-q-requires : goal.low_four-q-requires
 low_four-q-requires t c = omega (arith, under t (goal.at.low_four-q-requires t c).Else-left-eq0, c.if-k-eq4.true)
 
-pub choice_full-c-requires : goal.choice_full-c-requires
-choice_full-c-requires t c = scanned _ _ _ _ _ (under t (goal.at.choice_full-c-requires t c).Else-left-eq0) c.if-k-eq4.true c.low_four-p.ensures c.low_four-q.ensures
+pub choice_full-four-requires : goal.choice_full-four-requires
+choice_full-four-requires t c = scanned _ _ _ _ _ (under t (goal.at.choice_full-four-requires t c).Else-left-eq0) c.if-k-eq4.true c.low_four-p.ensures c.low_four-q.ensures
 
 pub choice-c-requires : goal.choice-c-requires
 choice-c-requires t c = under t (goal.at.choice-c-requires t c).Else-left-eq0
 
-pub shape_of-s-then-not-c-2 : goal.shape_of-s-then-not-c-2
-shape_of-s-then-not-c-2 t c = refl
+pub shape_of-s-then-not-c : goal.shape_of-s-then-not-c
+shape_of-s-then-not-c t c = refl
 
-pub returns-then-not-c-2 : goal.returns-then-not-c-2
-returns-then-not-c-2 t c = λ m e. take-bad _ _ m _ _ _ _ e c.if-left-eq0.false _ c.bare_at.ensures c.if-bare_at.false _ c.room_under-below.ensures _ (chosen t (goal.at.returns-then-not-c-2 t c).Joined-not-c) c.if-not-c-2.true
+pub returns-then-not-c : goal.returns-then-not-c
+returns-then-not-c t c = λ m e. take-bad _ _ m _ _ _ _ e c.if-left-eq0.false _ c.bare_at.ensures c.if-bare_at.false _ c.room_under-below.ensures _ (chosen t (goal.at.returns-then-not-c t c).Joined-four) c.if-not-c.true
 
 pub offset_bounds-s-at : goal.offset_bounds-s-at
 offset_bounds-s-at t c = omega (arith, lies t (goal.at.offset_bounds-s-at t c).Start)
@@ -99,13 +99,13 @@ pub overflow_sub-left : goal.overflow_sub-left
 overflow_sub-left t c = let h : c.args.left ≡ 0 → ⊥ = c.if-left-eq0.false in omega arith
 
 pub take-done-requires : goal.take-done-requires
-take-done-requires t c = (let h : c.args.left ≡ 0 → ⊥ = c.if-left-eq0.false in omega (arith, c.decreases), child-ready _ _ _ _ _ c.requires _ _ c.if-left-eq0.false (chosen t (goal.at.take-done-requires t c).Joined-not-c))
+take-done-requires t c = (let h : c.args.left ≡ 0 → ⊥ = c.if-left-eq0.false in omega (arith, c.decreases), child-ready _ _ _ _ _ c.requires _ _ c.if-left-eq0.false (chosen t (goal.at.take-done-requires t c).Joined-four))
 
 pub shape_of-s-then-not-done : goal.shape_of-s-then-not-done
 shape_of-s-then-not-done t c = c.take-done.auto.s
 
 pub returns-then-not-done : goal.returns-then-not-done
-returns-then-not-done t c = λ m e. take-stop _ _ m _ _ _ _ e c.if-left-eq0.false _ c.bare_at.ensures c.if-bare_at.false _ c.room_under-below.ensures _ (chosen t (goal.at.returns-then-not-done t c).Joined-not-c) c.if-not-c-2.false _ _ c.take-done.ensures c.if-not-done.true-raw
+returns-then-not-done t c = λ m e. take-stop _ _ m _ _ _ _ e c.if-left-eq0.false _ c.bare_at.ensures c.if-bare_at.false _ c.room_under-below.ensures _ (chosen t (goal.at.returns-then-not-done t c).Joined-four) c.if-not-c.false _ _ c.take-done.ensures c.if-not-done.true-raw
 
 pub sink-requires : goal.sink-requires
 sink-requires t c = omega (arith, lies t (goal.at.sink-requires t c).Start, c.take-done.auto.s)
@@ -117,4 +117,4 @@ pub shape_of-s : goal.shape_of-s
 shape_of-s t c = c.set_place.auto.s ∙ c.sink.auto.s ∙ c.take-done.auto.s
 
 pub returns : goal.returns
-returns t c = λ m e. take_done _ _ m _ _ _ _ e c.if-left-eq0.false _ c.bare_at.ensures c.if-bare_at.false _ c.room_under-below.ensures _ (chosen t (goal.at.returns t c).Joined-not-c) c.if-not-c-2.false _ _ c.take-done.ensures c.if-not-done.false-raw _ _ refl refl _ _ c.sink.ensures c.set_place.ensures
+returns t c = λ m e. take_done _ _ m _ _ _ _ e c.if-left-eq0.false _ c.bare_at.ensures c.if-bare_at.false _ c.room_under-below.ensures _ (chosen t (goal.at.returns t c).Joined-four) c.if-not-c.false _ _ c.take-done.ensures c.if-not-done.false-raw _ _ refl refl _ _ c.sink.ensures c.set_place.ensures

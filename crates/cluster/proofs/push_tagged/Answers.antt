@@ -1,4 +1,5 @@
 use Rattle.laws.specs.Prelude.{List, ◌∙◌, arith, length, sym, ℕ}
+use Rattle.std.proofs.lemmas.Result.{err_from_is_err_and}
 use Rattle.cluster.specs.Coded.{push_down}
 use Rattle.cluster.proofs.Opened.{bad-shape, put-ready}
 use Rattle.cluster.proofs.Pushed.{push-done, push-root, push-over, push-below}
@@ -36,10 +37,12 @@ pub capacity-requires : goal.capacity-requires
 capacity-requires c = ((shaped (goal.at.capacity-requires c).Else-not-shape_ok).few, nodes-here _ _ (words (goal.at.capacity-requires c).Else-not-shape_ok) _ c.shape_ok.ensures c.if-not-shape_ok.false-raw)
 
 pub returns-then-n-capacity : goal.returns-then-n-capacity
-returns-then-n-capacity c = push-over _ _ (words (goal.at.returns-then-n-capacity c).Else-not-shape_ok) _ c.shape_ok.ensures c.if-not-shape_ok.false-raw _ c.capacity-limit.ensures _ _ _ c.put.ensures c.if-put.false _ (sym c.in-Held.is ∙ c.held-all.ensures) _ c.capacity.ensures c.if-n-capacity.true
+returns-then-n-capacity c = push-over _ _ (words (goal.at.returns-then-n-capacity c).Else-not-shape_ok) _ c.shape_ok.ensures c.if-not-shape_ok.false-raw _ c.capacity-limit.ensures _ _ _ c.put.ensures c.if-put.false _ (sym c.in_ok-n.was ∙ c.held.ensures) _ c.capacity.ensures c.if-n-capacity.true
 
-pub returns-in-Unknown : goal.returns-in-Unknown
-returns-in-Unknown c = push-root _ _ (words (goal.at.returns-in-Unknown c).Else-not-shape_ok) _ c.shape_ok.ensures c.if-not-shape_ok.false-raw _ c.capacity-limit.ensures _ _ _ c.put.ensures c.if-put.false _ (sym c.in-Unknown.is ∙ c.held-all.ensures)
+pub returns-in_err-n : goal.returns-in_err-n
+returns-in_err-n c =
+    let p = err_from_is_err_and c.from_residual.result c.from_residual.ensures.1 in
+    rw (p.1, p.2) (push-root _ _ (words (goal.at.returns-in_err-n c).Else-not-shape_ok) _ c.shape_ok.ensures c.if-not-shape_ok.false-raw _ c.capacity-limit.ensures _ _ _ c.put.ensures c.if-put.false _ (sym c.in_err-n.was ∙ c.held.ensures))
 
-pub returns-else-n-capacity : goal.returns-else-n-capacity
-returns-else-n-capacity c = push-below _ _ (words (goal.at.returns-else-n-capacity c).Else-not-shape_ok) _ c.shape_ok.ensures c.if-not-shape_ok.false-raw _ c.capacity-limit.ensures _ _ _ c.put.ensures c.if-put.false _ (sym c.in-Held.is ∙ c.held-all.ensures) _ c.capacity.ensures c.if-n-capacity.false
+pub returns : goal.returns
+returns c = push-below _ _ (words (goal.at.returns c).Else-not-shape_ok) _ c.shape_ok.ensures c.if-not-shape_ok.false-raw _ c.capacity-limit.ensures _ _ _ c.put.ensures c.if-put.false _ (sym c.in_ok-n.was ∙ c.held.ensures) _ c.capacity.ensures c.if-n-capacity.false

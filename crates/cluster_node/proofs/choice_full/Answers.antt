@@ -27,4 +27,6 @@ pub elem_at-up-requires : goal.elem_at-up-requires
 elem_at-up-requires c = omega (arith, here c, (st c).requires.words)
 
 pub returns : goal.returns
-returns c = λ t. four-choice _ _ _ _ _ (st (goal.at.returns c).After-choose-place).requires (λ i. omega (arith, c.shared_slice_known-1.given i)) _ _ c.counts_ok-fine.ensures c.counts_ok-sound.ensures _ _ _ _ refl c.choose-child.ensures c.choose-place.ensures c.elem_at-up.ensures t
+returns c =
+    let t = c.if-not-ok.false in
+    (t, four-choice _ _ _ _ _ (st (goal.at.returns c).After-choose-place).requires (λ i. omega (arith, c.type_inv.s i)) _ _ c.counts_ok-fine.ensures c.counts_ok-sound.ensures _ _ _ _ refl c.choose-child.ensures c.choose-place.ensures c.elem_at-up.ensures t)

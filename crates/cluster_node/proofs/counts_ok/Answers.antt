@@ -4,4 +4,4 @@ use Rattle.cluster_node.proofs.counts_ok.Goals as goal
 
 pub returns : goal.returns
 unfolding counts_ok
-returns c = rw (c.wide-l.ensures, c.wide-r.ensures) refl
+returns c = refl

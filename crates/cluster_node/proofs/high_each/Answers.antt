@@ -1,4 +1,4 @@
-use Rattle.laws.specs.Prelude.{◌*◌, ◌+◌, ◌-◌, arith, le-leb, lt-leb, refl}
+use Rattle.laws.specs.Prelude.{◌*◌, ◌+◌, arith, le-leb, lt-leb, refl}
 use Rattle.cluster_model.specs.Prelude.{place_words}
 use Rattle.cluster_node.specs.Full.{ranks, is_high}
 use Rattle.cluster_node.proofs.Fulls.{full-first, full-next, high-first, high_end, best-taken, best-stays}
@@ -6,13 +6,13 @@ use Rattle.cluster_node.proofs.high_each.Goals as goal
 use Rattle.cluster_node.proofs.high_each.Goals.{else-best-rank, then-best-rank}
 
 pub overflow_cast-best : goal.overflow_cast-best
-overflow_cast-best c = omega (arith, c.shared_slice_known-1.given c.args.at)
+overflow_cast-best c = omega (arith, c.type_inv.s c.args.at)
 
 pub loop-j-init : goal.loop-j-init
 loop-j-init c = let h = high-first c.args.s.now c.args.at _ refl in (omega arith, full-first c.args.s.now c.args.at, h.0, h.1)
 
 pub overflow_cast-rank : goal.overflow_cast-rank
-overflow_cast-rank c = omega (arith, c.shared_slice_known-in-loop-j-1.given (c.args.at + c.loop-j.j * place_words))
+overflow_cast-rank c = omega (arith, c.type_inv.s (c.args.at + c.loop-j.j * place_words))
 
 pub loop-j-preserved : goal.loop-j-preserved
 loop-j-preserved c =

@@ -5,7 +5,7 @@ use Rattle.cluster_node.proofs.Fulls.{look-full}
 use Rattle.cluster_node.proofs.look.Goals as goal
 
 pub returns-then-a : goal.returns-then-a
-returns-then-a c = look-full _ _ (λ i. omega (arith, c.shared_slice_known-1.given i)) _ (sym (ap (λ (u : Lead). u.full) c.low_lead-a.ensures) ∙ c.if-a.true) _ c.low_lead-a.ensures
+returns-then-a c = look-full _ _ (λ i. omega (arith, c.type_inv.s i)) _ (sym (ap (λ (u : Lead). u.full) c.low_lead-a.ensures) ∙ c.if-a.true) _ c.low_lead-a.ensures
 
 pub returns : goal.returns
 returns c = ap low_only c.look_each-v.ensures

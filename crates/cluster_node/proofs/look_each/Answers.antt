@@ -1,5 +1,5 @@
 use Rattle.cluster_node.proofs.Looks.{look-next, look-first, within_of}
-use Rattle.laws.specs.Prelude.{◌-◌, ◌∙◌, ◌≡◌, ap, arith}
+use Rattle.laws.specs.Prelude.{◌∙◌, ◌≡◌, ap, arith}
 use Rattle.cluster_node.specs.Seeing.{look_to}
 use Rattle.cluster_node.proofs.look_each.Goals as goal
 

@@ -1,4 +1,4 @@
-use Rattle.laws.specs.Prelude.{◌-◌, arith, le-ltb, lt-ltb, ltb}
+use Rattle.laws.specs.Prelude.{arith, le-ltb, lt-ltb, ltb}
 use Rattle.cluster_node.specs.Full.{turns}
 use Rattle.cluster_node.proofs.Fulls.{full-first, full-next, low_first, low_end, best-taken, best-stays}
 use Rattle.cluster_node.proofs.low_each.Goals as goal

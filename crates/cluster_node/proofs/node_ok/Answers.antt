@@ -1,7 +1,7 @@
-use Rattle.cluster_node.proofs.Looks.{ok-is}
-use Rattle.cluster_node.specs.Leaf.{bare_at}
+use Rattle.laws.specs.Prelude.{refl}
+use Rattle.cluster_node.specs.Leaf.{ok_by}
 use Rattle.cluster_node.proofs.node_ok.Goals as goal
 
 pub returns : goal.returns
-unfolding bare_at
-returns c = ok-is _ _ _ _ _ _ _ _ c.bare_at-bare.ensures c.wide-l.ensures c.wide-r.ensures
+unfolding ok_by
+returns c = rw c.bare_at-bare.ensures refl

@@ -17,7 +17,7 @@ pub bounds-s-at : goal.bounds-s-at
 bounds-s-at c = omega (arith, seen_low c.args.s.now (c.args.at + 2) c.args.k c.look_each-v.result (omega arith) c.look_each-v.ensures)
 
 pub overflow_cast-rank : goal.overflow_cast-rank
-overflow_cast-rank c = omega (arith, c.shared_slice_known-2-1.given (c.args.at + 2 + c.look_each-v.result.low * place_words))
+overflow_cast-rank c = omega (arith, c.type_inv.s (c.args.at + 2 + c.look_each-v.result.low * place_words))
 
 pub returns : goal.returns
 returns c = peek-here _ _ _ _ _ _ c.look_each-v.ensures c.node_ok-fine.ensures

@@ -12,4 +12,4 @@ pub bounds-s-at : goal.bounds-s-at
 bounds-s-at c = omega (arith, side-le c.args.right c.choose-side.result c.choose-side.ensures)
 
 pub returns : goal.returns
-returns c = sink-is _ _ _ _ _ _ _ _ c.choose-side.ensures c.choose_word-count.ensures c.less.ensures
+returns c = sink-is _ _ _ _ _ _ _ _ c.choose-side.ensures c.choose-count.ensures c.saturating_sub.ensures

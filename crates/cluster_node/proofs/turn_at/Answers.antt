@@ -5,4 +5,4 @@ use Rattle.cluster_node.proofs.turn_at.Goals as goal
 
 pub returns : goal.returns
 unfolding turn_at
-returns c = c.turn_of.ensures ∙ ap turn c.element_at-x.ensures
+returns c = c.turn_of.ensures ∙ ap turn c.element_at.ensures

@@ -1,15 +1,19 @@
 -- `cluster_records::stage_of` meets its contract.
+use Rattle.laws.specs.Prelude.{Element, ◌∙◌, ap, arith}
+use Rattle.cluster_clock_model.specs.Prelude.{stage}
+use Rattle.cluster_clock_model.specs.declared.Due.TheVariants.{Put, Swap}
 use Rattle.cluster_records.proofs.Records.{stage-fill, stage-nothing, stage-put, stage-swap}
+use Rattle.cluster_records.specs.Lent.{at_node, at_place}
 use Rattle.cluster_records.proofs.stage_of.Goals as goal
 
-pub returns-then-kind-eq1 : goal.returns-then-kind-eq1
-returns-then-kind-eq1 c = stage-put _ c.if-kind-eq1.true
+pub returns-in-1 : goal.returns-in-1
+returns-in-1 c = ap (λ (x : Element). stage (Put x) (at_node c.args.r)) c.element_of-x.ensures ∙ stage-put _ c.in-1.is
 
-pub returns-then-kind-eq2 : goal.returns-then-kind-eq2
-returns-then-kind-eq2 c = stage-fill _ c.if-kind-eq1.false c.if-kind-eq2.true
+pub returns-in-2 : goal.returns-in-2
+returns-in-2 c = stage-fill _ c.in-2.is
 
-pub returns-then-kind-eq3 : goal.returns-then-kind-eq3
-returns-then-kind-eq3 c = stage-swap _ c.if-kind-eq1.false c.if-kind-eq2.false c.if-kind-eq3.true
+pub returns-in-3 : goal.returns-in-3
+returns-in-3 c = ap (λ (x : Element). stage (Swap (at_place c.args.r) x) (at_node c.args.r)) c.element_of-x.ensures ∙ stage-swap _ c.in-3.is
 
-pub returns : goal.returns
-returns c = stage-nothing _ c.if-kind-eq1.false c.if-kind-eq2.false c.if-kind-eq3.false _ c.no_stage.ensures
+pub returns-in_default : goal.returns-in_default
+returns-in_default c = stage-nothing _ (λ e. omega (arith, e)) (λ e. omega (arith, e)) (λ e. omega (arith, e)) _ c.no_stage.ensures

@@ -1,16 +1,11 @@
 use Rattle.lines_clock.proofs.Cycles.{choose-come, choose-rank, choose-tag}
-use Rattle.lines_model.specs.Rules.{rank_fit}
-use Rattle.lines_work.proofs.Finds.{told-yes}
 use Rattle.lines_clock.proofs.choose.Goals as goal
 
-pub returns-then-not-ranked : goal.returns-then-not-ranked
-returns-then-not-ranked c = choose-rank c.args.k c.args.s.now c.args.q _ c.rank_fit-ranked.ensures c.if-not-ranked.true-raw
+pub returns-then-not-rank_fit : goal.returns-then-not-rank_fit
+returns-then-not-rank_fit c = choose-rank c.args.k c.args.s.now c.args.q _ c.rank_fit.ensures c.if-not-rank_fit.true-raw
 
-pub returns-then-bare : goal.returns-then-bare
-returns-then-bare c = choose-tag c.args.k c.args.s.now c.args.q _ _ c.rank_fit-ranked.ensures c.if-not-ranked.false-raw c.lacks_tag-bare.ensures c.if-bare.true
-
-pub come_to-requires : goal.come_to-requires
-come_to-requires c = record { shaped = c.requires.shaped; counted = c.requires.counted; fitting = told-yes _ (rank_fit c.args.k c.args.q) c.rank_fit-ranked.ensures c.if-not-ranked.false-raw }
+pub returns-then-lacks_tag : goal.returns-then-lacks_tag
+returns-then-lacks_tag c = choose-tag c.args.k c.args.s.now c.args.q _ _ c.rank_fit.ensures c.if-not-rank_fit.false-raw c.lacks_tag.ensures c.if-lacks_tag.true
 
 pub returns : goal.returns
-returns c = choose-come c.args.k c.args.s.now c.args.q _ _ _ c.rank_fit-ranked.ensures c.if-not-ranked.false-raw c.lacks_tag-bare.ensures c.if-bare.false c.come_to.ensures
+returns c = choose-come c.args.k c.args.s.now c.args.q _ _ _ c.rank_fit.ensures c.if-not-rank_fit.false-raw c.lacks_tag.ensures c.if-lacks_tag.false c.come_to.ensures

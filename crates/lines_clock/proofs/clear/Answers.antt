@@ -3,8 +3,8 @@ use Rattle.laws.specs.Prelude.{◌∙◌, sym}
 use Rattle.lines_clock.proofs.Drained.{clear-no, clear-yes}
 use Rattle.lines_clock.proofs.clear.Goals as goal
 
-pub returns-then-n-ne0 : goal.returns-then-n-ne0
-returns-then-n-ne0 c = clear-no _ _ _ _ _ c.clear-answer.ensures (λ z. c.if-n-ne0.true (c.number-n.ensures ∙ z))
+pub returns-then-is_refused : goal.returns-then-is_refused
+returns-then-is_refused c = clear-no _ _ _ _ _ c.clear-answer.ensures (sym c.is_refused.ensures ∙ c.if-is_refused.true)
 
 pub returns : goal.returns
-returns c = clear-yes _ _ _ _ _ c.clear-answer.ensures (sym c.number-n.ensures ∙ c.if-n-ne0.false)
+returns c = clear-yes _ _ _ _ _ c.clear-answer.ensures (sym c.is_refused.ensures ∙ c.if-is_refused.false)

@@ -1,15 +1,16 @@
 -- `lines_records::pending_of` meets its contract.
+use Rattle.laws.specs.Prelude.{arith, rules}
 use Rattle.lines_records.proofs.Records.{pending-none, pending-put, pending-swap, pending-take}
 use Rattle.lines_records.proofs.pending_of.Goals as goal
 
-pub returns-then-kind-eq1 : goal.returns-then-kind-eq1
-returns-then-kind-eq1 c = pending-put _ _ c.element_of-x.ensures c.if-kind-eq1.true
+pub returns-in-1 : goal.returns-in-1
+returns-in-1 c = pending-put _ _ c.element_of-x.ensures c.in-1.is
 
-pub returns-then-kind-eq2 : goal.returns-then-kind-eq2
-returns-then-kind-eq2 c = pending-take _ c.if-kind-eq1.false c.if-kind-eq2.true
+pub returns-in-2 : goal.returns-in-2
+returns-in-2 c = pending-take _ (λ e. omega arith) c.in-2.is
 
-pub returns-then-kind-eq3 : goal.returns-then-kind-eq3
-returns-then-kind-eq3 c = pending-swap _ c.if-kind-eq1.false c.if-kind-eq2.false _ c.element_of-x.ensures c.if-kind-eq3.true
+pub returns-in-3 : goal.returns-in-3
+returns-in-3 c = pending-swap _ (λ e. omega arith) (λ e. omega arith) _ c.element_of-x.ensures c.in-3.is
 
-pub returns : goal.returns
-returns c = pending-none _ c.if-kind-eq1.false c.if-kind-eq2.false c.if-kind-eq3.false
+pub returns-in_default : goal.returns-in_default
+returns-in_default c = pending-none _ (λ e. search rules) (λ e. search rules) (λ e. search rules)

@@ -17,9 +17,6 @@ offset_bounds-s-a c = omega (arith, at-line c.args.k (length c.args.s.now) c.req
 pub bounds-s-a : goal.bounds-s-a
 bounds-s-a c = omega (arith, at-line c.args.k (length c.args.s.now) c.requires.shaped c.args.l c.requires.line_in, c.row_at-a.ensures)
 
-pub overflow_cast-result : goal.overflow_cast-result
-overflow_cast-result c = omega (arith, c.shared_slice_known-3-1.given c.row_at-a.result)
-
 pub returns-then-c-eq0 : goal.returns-then-c-eq0
 returns-then-c-eq0 c = front-none c.args.k c.args.s.now c.args.l c.if-c-eq0.true
 

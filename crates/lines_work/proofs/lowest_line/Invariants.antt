@@ -1,4 +1,4 @@
-use Rattle.laws.specs.Prelude.{◌-◌, ◌<◌, ◌≡◌, ◌≤◌}
+use Rattle.laws.specs.Prelude.{◌<◌, ◌≡◌, ◌≤◌}
 use Rattle.lines_model.specs.Calls.{heads}
 use Rattle.lines_model.specs.Layout.{word}
 use Rattle.lines_model.specs.Rules.{lowest}
@@ -7,6 +7,3 @@ use Rattle.lines_work.proofs.lowest_line.Given as goal
 
 abbrev pub invariant-loop-i : goal.invariant-loop-i
 invariant-loop-i l = (l.j ≡ lowest (word l.s) (heads l.k l.s) l.i) × (l.i ≤ l.k.lines) × (l.j < l.k.lines) × (l.best ≡ front l.k l.s l.j)
-
-abbrev pub decreases-loop-i : goal.decreases-loop-i
-decreases-loop-i l = l.k.lines - l.i

@@ -1,7 +1,7 @@
-use Rattle.laws.specs.Prelude.{refl}
-use Rattle.lines_model.specs.Layout.{power_of_two}
+-- `lines_work::power_of_two` meets its contract.
+use Rattle.laws.specs.Prelude.{◌&&◌, ◌∙◌, ap, leb}
+use Rattle.lines_work.proofs.Powers.{powers}
 use Rattle.lines_work.proofs.power_of_two.Goals as goal
 
 pub returns : goal.returns
-unfolding power_of_two
-returns c = refl
+returns c = ap (λ b. b && leb c.args.n 512) c.is_power_of_two.ensures ∙ powers c.args.n

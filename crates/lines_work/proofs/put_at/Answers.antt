@@ -11,9 +11,6 @@ overflow_add-b c = omega (arith, spot-most c.args.s.now c.args.a c.args.c c.args
 pub overflow_sub-n : goal.overflow_sub-n
 overflow_sub-n c = omega (arith, spot-most c.args.s.now c.args.a c.args.c c.args.spot c.args.x c.requires.seated)
 
-pub overflow_mul-n : goal.overflow_mul-n
-overflow_mul-n c = omega (arith, spot-most c.args.s.now c.args.a c.args.c c.args.spot c.args.x c.requires.seated)
-
 pub shift_up-requires : goal.shift_up-requires
 shift_up-requires c = omega (arith, spot-most c.args.s.now c.args.a c.args.c c.args.spot c.args.x c.requires.seated)
 

@@ -1,9 +1,7 @@
+-- `lines_work::scan` meets its contract.
+use Rattle.laws.specs.Prelude.{◌*◌, ◌+◌, ◌-◌}
 use Rattle.lines_work.proofs.Choices.{Scanning}
-use Rattle.promise.specs.Prelude.{left}
 use Rattle.lines_work.proofs.scan.Given as goal
 
-abbrev pub invariant-loop-left : goal.invariant-loop-left
-invariant-loop-left l = Scanning l.s l.a l.c l.rank l.ok l.spot l.last l.b l.left
-
-abbrev pub decreases-loop-left : goal.decreases-loop-left
-decreases-loop-left l = l.left
+abbrev pub invariant-loop-i : goal.invariant-loop-i
+invariant-loop-i l = Scanning l.s l.a l.c l.rank l.ok l.spot l.last (l.a + 3 * l.i) (l.c - l.i)

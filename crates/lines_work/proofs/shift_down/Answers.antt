@@ -1,17 +1,10 @@
-use Rattle.laws.specs.Prelude.{◌+◌, ◌∙◌, ◌≡◌, arith, length-set, refl}
-use Rattle.lines_model.specs.Layout.{word}
-use Rattle.lines_work.proofs.Shifts.{down-again, down-none}
-use Rattle.promise.specs.Prelude.{left}
+-- `lines_work::shift_down` meets its contract.
+use Rattle.laws.specs.Prelude.{◌+◌, ◌-◌, ◌≡◌, arith, length-set}
+use Rattle.lines_work.proofs.Shifts.{down-none, down-on}
 use Rattle.lines_work.proofs.shift_down.Goals as goal
 
-pub loop-left-init : goal.loop-left-init
-loop-left-init c = (refl, c.requires, refl)
-
-pub loop-left-smaller : goal.loop-left-smaller
-loop-left-smaller c = omega arith
-
-pub loop-left-preserved : goal.loop-left-preserved
-loop-left-preserved c = (down-again _ c.loop-left.s c.loop-left.b c.loop-left.left c.loop-left-test.true c.loop-left.invariant.0, omega (arith, length-set c.loop-left.s c.loop-left.b (word c.loop-left.s (c.loop-left.b + 3)), c.loop-left.invariant.1), length-set c.loop-left.s c.loop-left.b (word c.loop-left.s (c.loop-left.b + 3)) ∙ c.loop-left.invariant.2)
+pub loop-b-preserved : goal.loop-b-preserved
+loop-b-preserved c = (down-on _ c.loop-b.s c.loop-b.b _ (omega arith) c.loop-b.invariant.0, simp length-set c.loop-b.invariant.1)
 
 pub returns : goal.returns
-returns c = let z : c.loop-left.left ≡ 0 = omega arith in down-none _ _ _ _ z c.loop-left.invariant.0
+returns c = let z : c.args.a + c.args.n - c.loop-b.b ≡ 0 = omega arith in down-none _ _ _ _ z c.loop-b.invariant.0

@@ -1,14 +1,7 @@
-use Rattle.laws.specs.Prelude.{◌+◌, ◌-◌, ◌∙◌, ◌≡◌, arith, length-set, refl}
+use Rattle.laws.specs.Prelude.{◌+◌, ◌-◌, ◌∙◌, ◌≡◌, arith, length-set}
 use Rattle.lines_model.specs.Layout.{word}
 use Rattle.lines_work.proofs.Shifts.{up-again, up_none}
-use Rattle.promise.specs.Prelude.{left}
 use Rattle.lines_work.proofs.shift_up.Goals as goal
-
-pub loop-left-init : goal.loop-left-init
-loop-left-init c = (refl, c.requires, refl)
-
-pub loop-left-smaller : goal.loop-left-smaller
-loop-left-smaller c = omega arith
 
 pub loop-left-preserved : goal.loop-left-preserved
 loop-left-preserved c = (up-again _ c.loop-left.s c.args.b c.loop-left.left c.loop-left-test.true c.loop-left.invariant.0, omega (arith, length-set c.loop-left.s (c.args.b + (c.loop-left.left - 1) + 3) (word c.loop-left.s (c.args.b + (c.loop-left.left - 1))), c.loop-left.invariant.1), length-set c.loop-left.s (c.args.b + (c.loop-left.left - 1) + 3) (word c.loop-left.s (c.args.b + (c.loop-left.left - 1))) ∙ c.loop-left.invariant.2)

@@ -1,7 +1,7 @@
 use Rattle.laws.specs.Prelude.{length, subst}
 use Rattle.lines_model.specs.declared.Due.{Due}
 use Rattle.lines_work.proofs.Finds.{small}
-use Rattle.lines_work.proofs.Works.{put-ready, take-ready, work-put, work-rest, work-swap, work-take}
+use Rattle.lines_work.proofs.Works.{put-ready, take-ready, work-put, work-rest, work-take}
 use Rattle.lines_work.specs.Work.{Fits, looked, Passed}
 use Rattle.lines_work.proofs.work.Goals as goal
 
@@ -17,9 +17,6 @@ row_at-a-requires-in-Take c = let z = small c.args.k (length c.args.s.now) c.req
 pub work_line-requires-in-Take : goal.work_line-requires-in-Take
 work_line-requires-in-Take c = take-ready c.args.k c.args.s.now c.args.size c.args.spot _ _ c.no_element-none.result c.requires.shaped (subst (Fits c.args.k c.args.size) c.in-Take.is c.requires.fits) c.row_at-a-in-Take.ensures
 
-pub work_two-requires : goal.work_two-requires
-work_two-requires c = record { shaped = c.requires.shaped; fits = subst (Fits c.args.k c.args.size) c.in-Swap.is c.requires.fits; passed = subst (λ (d : Due). Passed (looked c.args.k c.args.s.now c.args.size d) c.args.spot) c.in-Swap.is c.requires.passed }
-
 pub returns-in-Rest : goal.returns-in-Rest
 returns-in-Rest c = work-rest c.args.k c.args.s.now c.args.size c.args.due c.in-Rest.is
 
@@ -28,6 +25,3 @@ returns-in-Put c = work-put c.args.k c.args.s.now c.args.size c.args.due _ _ _ _
 
 pub returns-in-Take : goal.returns-in-Take
 returns-in-Take c = work-take c.args.k c.args.s.now c.args.size c.args.due _ _ _ _ c.in-Take.is c.row_at-a-in-Take.ensures c.work_line-in-Take.ensures
-
-pub returns-in-Swap : goal.returns-in-Swap
-returns-in-Swap c = work-swap c.args.k c.args.s.now c.args.size c.args.due _ _ _ c.in-Swap.is c.work_two.ensures

@@ -1,5 +1,6 @@
 -- `packed::clear` meets its contract.
-use Rattle.laws.specs.Prelude.{arith, not-false, not-true}
+use Rattle.laws.specs.Prelude.{arith, not-false, not-true, sym}
+use lib.Seq.{length-take-le}
 use Rattle.packed.proofs.Calls.{clear-shape, clear-few, clear-fits, clear-done}
 use Rattle.packed.proofs.clear.Goals as goal
 
@@ -18,8 +19,11 @@ overflow_mul-heaps-2 c = omega (arith, clear-fits c.args.heaps c.args.levels c.a
 pub overflow_add-heaps : goal.overflow_add-heaps
 overflow_add-heaps c = omega (arith, clear-fits c.args.heaps c.args.levels c.args.store.now c.shape_ok.result c.shape_ok.ensures (not-false c.shape_ok.result c.if-not-shape_ok.false-raw) c.capacity_of-n.result c.capacity_of-n.ensures)
 
-pub zero_words-requires : goal.zero_words-requires
-zero_words-requires c = omega (arith, clear-fits c.args.heaps c.args.levels c.args.store.now c.shape_ok.result c.shape_ok.ensures (not-false c.shape_ok.result c.if-not-shape_ok.false-raw) c.capacity_of-n.result c.capacity_of-n.ensures)
+pub slice_bounds-fill-end : goal.slice_bounds-fill-end
+slice_bounds-fill-end c = omega (arith, clear-fits c.args.heaps c.args.levels c.args.store.now c.shape_ok.result c.shape_ok.ensures (not-false c.shape_ok.result c.if-not-shape_ok.false-raw) c.capacity_of-n.result c.capacity_of-n.ensures)
+
+pub slice_bounds-fill-end-2 : goal.slice_bounds-fill-end-2
+slice_bounds-fill-end-2 c = sym (length-take-le _ _ (clear-fits c.args.heaps c.args.levels c.args.store.now c.shape_ok.result c.shape_ok.ensures (not-false c.shape_ok.result c.if-not-shape_ok.false-raw) c.capacity_of-n.result c.capacity_of-n.ensures).2)
 
 pub returns : goal.returns
-returns c = clear-done c.args.heaps c.args.levels c.args.store.now c.shape_ok.result c.shape_ok.ensures (not-false c.shape_ok.result c.if-not-shape_ok.false-raw) _ c.capacity_of-n.ensures _ c.zero_words.ensures
+returns c = clear-done c.args.heaps c.args.levels c.args.store.now c.shape_ok.result c.shape_ok.ensures (not-false c.shape_ok.result c.if-not-shape_ok.false-raw) _ c.capacity_of-n.ensures _ (c.fill.ensures.after (λ y e. e))

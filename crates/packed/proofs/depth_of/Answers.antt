@@ -1,22 +1,10 @@
 -- `packed::depth_of` meets its contract.
-use Rattle.laws.specs.Prelude.{arith, refl}
+use Rattle.laws.specs.Prelude.{arith}
 use Rattle.packed.proofs.Shapes.{depth-here, depth-less, depth-none}
 use Rattle.packed.proofs.depth_of.Goals as goal
 
-pub loop-k-init : goal.loop-k-init
-loop-k-init c = (omega arith, refl)
-
-pub overflow_sub-k : goal.overflow_sub-k
-overflow_sub-k c = omega arith
-
-pub power-requires : goal.power-requires
-power-requires c = omega arith
-
 pub returns-then-power-t : goal.returns-then-power-t
 returns-then-power-t c = depth-here _ c.loop-k.k _ _ c.loop-k-test.true c.loop-k.invariant.1 c.power.ensures c.if-power-t.true
-
-pub loop-k-smaller : goal.loop-k-smaller
-loop-k-smaller c = omega arith
 
 pub loop-k-preserved : goal.loop-k-preserved
 loop-k-preserved c = (omega arith, depth-less _ c.loop-k.k _ _ c.loop-k-test.true c.loop-k.invariant.1 c.power.ensures c.if-power-t.false)

@@ -5,6 +5,3 @@ use Rattle.packed.proofs.depth_of.Given as goal
 
 abbrev pub invariant-loop-k : goal.invariant-loop-k
 invariant-loop-k l = (l.k ≤ l.levels) × (depth l.k l.t ≡ depth l.levels l.t)
-
-abbrev pub decreases-loop-k : goal.decreases-loop-k
-decreases-loop-k l = l.k

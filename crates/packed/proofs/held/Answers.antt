@@ -10,9 +10,6 @@ returns-then-not-shape_ok c = held-shape _ _ _ _ _ c.shape_ok.ensures (not-true 
 pub returns-then-heaps-heap : goal.returns-then-heaps-heap
 returns-then-heaps-heap c = held_none _ _ _ _ _ c.shape_ok.ensures (not-false c.shape_ok.result c.if-not-shape_ok.false-raw) c.if-heaps-heap.true
 
-pub root_ok-requires : goal.root_ok-requires
-root_ok-requires c = (record { shape = sym c.shape_ok.ensures ∙ (not-false c.shape_ok.result c.if-not-shape_ok.false-raw); heap = c.if-heaps-heap.false })
-
 pub returns-then-not-root_ok : goal.returns-then-not-root_ok
 returns-then-not-root_ok c = held-bad _ _ _ _ _ _ c.shape_ok.ensures (not-false c.shape_ok.result c.if-not-shape_ok.false-raw) c.if-heaps-heap.false c.root_ok.ensures (not-true c.root_ok.result c.if-not-root_ok.true-raw)
 

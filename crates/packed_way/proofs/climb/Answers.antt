@@ -6,23 +6,8 @@ use Rattle.packed_way.proofs.climb.Goals as goal
 pub loop-m-init : goal.loop-m-init
 loop-m-init c = (omega arith, refl, λ left h is e. climb-end _ _ _ _ _ _ e)
 
-pub slot-e-requires : goal.slot-e-requires
-slot-e-requires c = omega (arith, c.requires.1, c.loop-m.invariant.0, c.loop-m.invariant.1)
-
-pub set_slot-requires : goal.set_slot-requires
-set_slot-requires c = omega (arith, c.requires.1, c.loop-m.invariant.0, c.loop-m.invariant.1)
-
-pub loop-m-smaller : goal.loop-m-smaller
-loop-m-smaller c = omega (arith, c.requires.0)
-
 pub loop-m-preserved : goal.loop-m-preserved
 loop-m-preserved c = (omega (arith, c.loop-m.invariant.0), c.set_slot.auto.s ∙ c.loop-m.invariant.1, λ left h is e. subst (Climb c.args.heaps left c.args.x h c.args.s.now _ _) (sym c.set_slot.ensures) (climb-on _ _ _ _ _ is _ _ _ (c.loop-m.invariant.2 left h is e) c.loop-m-test.true _ c.slot-e.ensures))
-
-pub set_slot-requires-2 : goal.set_slot-requires-2
-set_slot-requires-2 c = omega (arith, c.requires.1, c.loop-m.invariant.0, c.loop-m.invariant.1)
-
-pub shape_of-s : goal.shape_of-s
-shape_of-s c = c.set_slot-2.auto.s ∙ c.loop-m.invariant.1
 
 pub returns : goal.returns
 returns c = λ left h is e. climb-top _ _ _ _ _ is _ _ _ _ (c.loop-m.invariant.2 left h is e) (omega arith) c.set_slot-2.ensures

@@ -1,45 +1,21 @@
 -- `packed_way::rest_edge` meets its contract.
-use Rattle.laws.specs.Prelude.{◌+◌, ◌≡◌, add-one, arith, leb, length, subst, ℕ}
-use Rattle.packed_way.proofs.Putted.{under-lies}
-use Rattle.packed_way.proofs.Walked.{lies-on, to-few, walk-goes, walk-last, walk-stays, walk-torn}
-use Rattle.packed_way.specs.Sink.{slot_but, Walk}
+use Rattle.laws.specs.Prelude.{◌-◌, ◌∙◌, ◌≡◌, ap, arith, subst, ℕ}
+use Rattle.std.specs.Prelude.{Some}
+use Rattle.packed_model.specs.Node.{lhs, rhs}
+use Rattle.packed_way.proofs.Walked.{edge-on, walk-last, walk-stays, walk-torn}
+use Rattle.packed_way.specs.Sink.{Walk}
+use Rattle.packed_way.specs.declared.Goes.{Goes}
 use Rattle.packed_way.proofs.rest_edge.Goals as goal
+use Rattle.packed_way.proofs.rest_edge.Goals.{in-Left, in-Right}
 
-pub loop-k-init : goal.loop-k-init
-loop-k-init c = (omega arith, c.requires.lies, c.requires.edge, λ l h n held us reads w. w)
+pub returns-in_err-edge_to : goal.returns-in_err-edge_to
+returns-in_err-edge_to c = λ l h n held us reads w. rw c.from_residual.ensures (walk-torn c.args.heaps l c.args.x h c.args.s.now us n c.args.last c.args.p held reads c.loop.at _ c.edge_to.ensures (c.args.left - c.loop.counter) (omega arith) (c.loop.invariant.walk l h n held us reads w) c.in_err-edge_to.was)
 
-pub overflow_add-c : goal.overflow_add-c
-overflow_add-c c = omega (arith, under-lies c.args.heaps c.loop-k.k c.loop-k.at (length c.args.s.now) c.loop-k-test.true c.loop-k.invariant.1)
+pub returns-in-Nowhere : goal.returns-in-Nowhere
+returns-in-Nowhere c = λ l h n held us reads w. walk-stays c.args.heaps l c.args.x h c.args.s.now us n c.args.last c.args.p held reads c.loop.at _ c.edge_to.ensures (c.args.left - c.loop.counter) (omega arith) (c.loop.invariant.walk l h n held us reads w) (c.in_ok-edge_to.was ∙ ap (λ (g : Goes). Some g) c.in-Nowhere.is)
 
-pub overflow_add-c-in-loop-k : goal.overflow_add-c-in-loop-k
-overflow_add-c-in-loop-k c = omega (arith, under-lies c.args.heaps c.loop-k.k c.loop-k.at (length c.args.s.now) c.loop-k-test.true c.loop-k.invariant.1)
-
-pub edge_to-t-requires : goal.edge_to-t-requires
-edge_to-t-requires c = (omega (arith, under-lies c.args.heaps c.loop-k.k c.loop-k.at (length c.args.s.now) c.loop-k-test.true c.loop-k.invariant.1), c.loop-k.invariant.2)
-
-pub returns-then-t-eq3 : goal.returns-then-t-eq3
-returns-then-t-eq3 c = λ l h n held us reads w. walk-torn c.args.heaps l c.args.x h c.args.s.now us n c.args.last c.args.p held reads c.loop-k.at _ c.edge_to-t.ensures c.loop-k.k c.loop-k-test.true (c.loop-k.invariant.3 l h n held us reads w) c.if-t-eq3.true
-
-pub overflow_add-result : goal.overflow_add-result
-overflow_add-result c = omega (arith, c.loop-k.invariant.1.0)
-
-pub returns-then-t-eq2 : goal.returns-then-t-eq2
-returns-then-t-eq2 c = λ l h n held us reads w. rw add-one (walk-stays c.args.heaps l c.args.x h c.args.s.now us n c.args.last c.args.p held reads c.loop-k.at _ c.edge_to-t.ensures c.loop-k.k c.loop-k-test.true (c.loop-k.invariant.3 l h n held us reads w) c.if-t-eq2.true)
-
-pub overflow_add-at : goal.overflow_add-at
-overflow_add-at c = omega (arith, under-lies c.args.heaps c.loop-k.k c.loop-k.at (length c.args.s.now) c.loop-k-test.true c.loop-k.invariant.1, c.edge_to-t.ensures, to-few (leb (c.loop-k.at + c.loop-k.at + c.args.heaps) c.args.last) (leb (c.loop-k.at + c.loop-k.at + c.args.heaps + 1) c.args.last) c.args.x (slot_but c.args.heaps c.args.p c.args.s.now (c.loop-k.at + c.loop-k.at + c.args.heaps)) (slot_but c.args.heaps c.args.p c.args.s.now (c.loop-k.at + c.loop-k.at + c.args.heaps + 1)))
-
-pub overflow_sub-k : goal.overflow_sub-k
-overflow_sub-k c = omega arith
-
-pub loop-k-smaller : goal.loop-k-smaller
-loop-k-smaller c = omega arith
-
-pub loop-k-preserved : goal.loop-k-preserved
-loop-k-preserved c = (omega (arith, c.loop-k.invariant.0), lies-on _ _ _ _ _ c.loop-k-test.true (let n3 : c.edge_to-t.result ≡ 3 → ⊥ = c.if-t-eq3.false in let n2 : c.edge_to-t.result ≡ 2 → ⊥ = c.if-t-eq2.false in omega (arith, c.edge_to-t.ensures, to-few (leb (c.loop-k.at + c.loop-k.at + c.args.heaps) c.args.last) (leb (c.loop-k.at + c.loop-k.at + c.args.heaps + 1) c.args.last) c.args.x (slot_but c.args.heaps c.args.p c.args.s.now (c.loop-k.at + c.loop-k.at + c.args.heaps)) (slot_but c.args.heaps c.args.p c.args.s.now (c.loop-k.at + c.loop-k.at + c.args.heaps + 1)))) c.loop-k.invariant.1, omega (arith, c.loop-k.invariant.2), λ l h n held us reads w. walk-goes c.args.heaps l c.args.x h c.args.s.now us n c.args.last c.args.p held reads c.loop-k.at _ c.edge_to-t.ensures c.loop-k.k c.loop-k-test.true (c.loop-k.invariant.3 l h n held us reads w) c.if-t-eq3.false c.if-t-eq2.false)
-
-pub overflow_add-result-2 : goal.overflow_add-result-2
-overflow_add-result-2 c = omega (arith, c.loop-k.invariant.1.0)
+pub loop-preserved : goal.loop-preserved
+loop-preserved c = elim c.match-branch-2.branch [ in-Left w ↦ edge-on c.args.heaps c.args.left c.args.last c.args.p c.args.m c.args.x c.args.s.now c.loop.counter c.loop.at c.loop-test.true c.loop.invariant _ c.edge_to.ensures lhs (c.in_ok-edge_to.was ∙ ap (λ (g : Goes). Some g) w.in-Left.is) _ w.at-is | in-Right w ↦ edge-on c.args.heaps c.args.left c.args.last c.args.p c.args.m c.args.x c.args.s.now c.loop.counter c.loop.at c.loop-test.true c.loop.invariant _ c.edge_to.ensures rhs (c.in_ok-edge_to.was ∙ ap (λ (g : Goes). Some g) w.in-Right.is) _ w.at-is ]
 
 pub returns : goal.returns
-returns c = λ l h n held us reads w. let z : c.loop-k.k ≡ 0 = omega arith in rw add-one (walk-last _ _ _ _ us n _ (subst (λ (k : ℕ). Walk c.args.heaps l c.args.x h us n k c.loop-k.at) z (c.loop-k.invariant.3 l h n held us reads w)))
+returns c = λ l h n held us reads w. let z : c.args.left - c.loop.counter ≡ 0 = omega arith in walk-last _ _ _ _ us n _ (subst (λ (k : ℕ). Walk c.args.heaps l c.args.x h us n k c.loop.at) z (c.loop.invariant.walk l h n held us reads w))

@@ -1,30 +1,15 @@
 -- `ports::push` meets its contract.
-use Rattle.laws.specs.Prelude.{◌-◌, ◌∙◌, ap, arith, length, refl}
-use Rattle.bucket_step.proofs.Depths.{none-gone, gone-here, gone-on, all-gone}
+use Rattle.laws.specs.Prelude.{◌∙◌}
+use Rattle.bucket_step.proofs.Depths.{all-gone}
+use Rattle.ports_model.specs.Prelude.{pushed}
 use Rattle.ports.proofs.Returns.{push-undeep}
 use Rattle.ports.proofs.push.Goals as goal
-use Rattle.ports.proofs.push.Invariants.{call}
-use Rattle.ports.proofs.push.Goals.{else-d-s, then-d-s}
 
--- what is done at the depth asked for
-pub loop-d-init : goal.loop-d-init
-loop-d-init c =
-    let a = c.args in
-    (omega arith, omega arith, refl, refl, none-gone (call a.e a.s a.port) a.s.storeys _ _)
-
-pub loop-d-preserved : goal.loop-d-preserved
-loop-d-preserved c =
-    let inv = c.loop-d.invariant in
-    let a = c.args in
-    elim c.if-d-s.branch [ then-d-s w ↦ (omega arith, omega arith, ap length w.bits-is ∙ w.push_at-answer.auto.bits ∙ inv.2, ap length w.words-is ∙ w.push_at-answer.auto.words ∙ inv.3, gone-here (call a.e a.s a.port) a.s.storeys _ _ _ _ _ _ _ _ _ _ _ _ inv.0 w.if-d-s.true inv.4 w.push_at-answer.ensures w.bits-is w.words-is w.answer-is) | else-d-s w ↦ (omega arith, omega arith, ap length w.bits-is ∙ inv.2, ap length w.words-is ∙ inv.3, gone-on (call a.e a.s a.port) a.s.storeys _ _ _ _ _ _ _ _ _ w.if-d-s.false inv.4 w.bits-is w.words-is w.answer-is) ]
-
-pub shape_of-bits : goal.shape_of-bits
-shape_of-bits c = c.loop-d.invariant.2
-
-pub shape_of-words : goal.shape_of-words
-shape_of-words c = c.loop-d.invariant.3
+pub returns-then-d-s : goal.returns-then-d-s
+returns-then-d-s c = c.push_at.ensures ∙ (let inv = c.loop-d.invariant in λ i. pushed (record { storeys = c.if-d-s.true i; nodes = c.args.s.nodes; ports = c.args.s.ports }) c.args.port (inv.0 i) (inv.1 i) c.args.e)
 
 pub returns : goal.returns
 returns c =
+    let inv = c.loop-d.invariant in
     let a = c.args in
-    all-gone (call a.e a.s a.port) a.s.storeys _ _ c.loop-d.d _ (omega arith) (λ e. push-undeep a.s a.port a.bits.now a.words.now a.e e) c.loop-d.invariant.4
+    rw (inv.0, inv.1) (push-undeep a.s a.port a.bits.now a.words.now a.e (all-gone a.s.storeys c.loop-d.d c.loop-d-test.false inv.2))

@@ -3,11 +3,8 @@ use Rattle.laws.specs.Prelude.{arith}
 use Rattle.ports_step.proofs.Sums.{seat-small, tall-is}
 use Rattle.ports_step.proofs.bit_words.Goals as goal
 
-pub seat_of-first-requires : goal.seat_of-first-requires
-seat_of-first-requires c = record { numbers = c.requires; port_in = c.requires.some }
-
 pub overflow_mul-result : goal.overflow_mul-result
-overflow_mul-result c = omega (arith, seat-small c.args.s c.seat_of-first.result c.requires c.seat_of-first.ensures)
+overflow_mul-result c = omega (arith, seat-small c.args.s c.seat_of.result c.requires c.seat_of.ensures)
 
 pub returns : goal.returns
-returns c = record { is = tall-is c.args.s c.seat_of-first.result c.seat_of-first.ensures; within = (seat-small c.args.s c.seat_of-first.result c.requires c.seat_of-first.ensures).0 }
+returns c = record { is = tall-is c.args.s c.seat_of.result c.seat_of.ensures; within = (seat-small c.args.s c.seat_of.result c.requires c.seat_of.ensures).0 }

@@ -7,6 +7,6 @@ pub returns-then-lower : goal.returns-then-lower
 unfolding keep
 returns-then-lower c = rw (← sym c.if-lower.true ∙ c.lower.ensures)
 
-pub returns : goal.returns
+pub returns-else-lower : goal.returns-else-lower
 unfolding keep
-returns c = rw (← sym c.if-lower.false ∙ c.lower.ensures)
+returns-else-lower c = rw (← sym c.if-lower.false ∙ c.lower.ensures)

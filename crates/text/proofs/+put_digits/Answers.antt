@@ -11,12 +11,6 @@ returns-then-left-eq0 t c = digits-end _ _ _ _ c.if-left-eq0.true
 pub returns-then-n-lt10 : goal.returns-then-n-lt10
 returns-then-n-lt10 t c = digits-one _ _ _ _ c.if-left-eq0.false c.if-n-lt10.true
 
-pub overflow_sub-left : goal.overflow_sub-left
-overflow_sub-left t c = let h : c.args.left ≡ 0 → ⊥ = c.if-left-eq0.false in omega arith
-
-pub put_digits-p-requires : goal.put_digits-p-requires
-put_digits-p-requires t c = (let h : c.args.left ≡ 0 → ⊥ = c.if-left-eq0.false in omega (arith, c.decreases), let h : c.args.left ≡ 0 → ⊥ = c.if-left-eq0.false in omega arith)
-
 pub bounds-out-p : goal.bounds-out-p
 bounds-out-p t c = let h : c.args.left ≡ 0 → ⊥ = c.if-left-eq0.false in omega (arith, c.put_digits-p.ensures.0, decimal-short (c.args.left - 1) (c.args.n / 10), c.put_digits-p.auto.out, c.requires)
 

@@ -4,4 +4,4 @@ use Rattle.trace_model.proofs.Laws.{closed-made}
 use Rattle.trace.proofs.closed.Goals as goal
 
 pub returns : goal.returns
-returns c = (closed-made _ c.fresh_state-state.ensures, refl)
+returns c = (closed-made _ c.fresh_state.ensures, refl)

@@ -5,8 +5,8 @@ use Rattle.trace.proofs.play_record.Goals as goal
 pub returns-then-not-play : goal.returns-then-not-play
 returns-then-not-play c = record-ended _ _ _ c.requires.1 _ c.if-not-play.true
 
-pub returns-in-Bad : goal.returns-in-Bad
-returns-in-Bad c = record-bad _ _ _ c.requires.1 _ _ c.if-not-play.false _ c.record_at-found.ensures _ _ c.in-Bad.is c.play_bad.ensures
+pub returns-in-None : goal.returns-in-None
+returns-in-None c = record-bad _ _ _ c.requires.1 _ _ c.if-not-play.false _ c.record_at.ensures _ _ c.in-None.is c.play_bad.ensures
 
-pub returns-in-Good : goal.returns-in-Good
-returns-in-Good c = record-good _ _ _ c.requires.1 _ _ c.if-not-play.false _ c.record_at-found.ensures _ _ _ _ c.in-Good.is c.play_good.ensures
+pub returns-in-Some : goal.returns-in-Some
+returns-in-Some c = record-good _ _ _ c.requires.1 _ _ c.if-not-play.false _ c.record_at.ensures _ _ _ _ c.in-Some.is c.play_good.ensures

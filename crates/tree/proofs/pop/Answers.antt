@@ -38,14 +38,14 @@ returns-then-not-v c = called-damaged (fitting (goal.at.returns-then-not-v c).Af
 pub returns-then-j-order : goal.returns-then-j-order
 returns-then-j-order c = pop-none (fitting (goal.at.returns-then-j-order c).After-capacity-cap) _ _ c.look_low-v.ensures.whole c.look_low-v.ensures.place c.if-not-v.false c.if-j-order.true
 
-pub slot_at-a-requires : goal.slot_at-a-requires
-slot_at-a-requires c = omega (arith, numbers (root_stands (fitting (goal.at.slot_at-a-requires c).After-capacity-cap)), opening c)
+pub slot_at-requires : goal.slot_at-requires
+slot_at-requires c = omega (arith, numbers (root_stands (fitting (goal.at.slot_at-requires c).After-capacity-cap)), opening c)
 
 pub take-requires : goal.take-requires
 take-requires c = (opening (goal.at.take-requires c).Else-j-order).looked
 
 pub returns-then-not-take : goal.returns-then-not-take
-returns-then-not-take c = pop-broken (opening (goal.at.returns-then-not-take c).Else-j-order) _ c.slot_at-a.ensures _ _ c.take.ensures c.if-not-take.true-raw
+returns-then-not-take c = pop-broken (opening (goal.at.returns-then-not-take c).Else-j-order) _ c.slot_at.ensures _ _ c.take.ensures c.if-not-take.true-raw
 
 pub returns : goal.returns
-returns c = pop-done (opening (goal.at.returns c).Else-j-order) _ c.slot_at-a.ensures _ _ c.take.ensures c.if-not-take.false-raw
+returns c = pop-done (opening (goal.at.returns c).Else-j-order) _ c.slot_at.ensures _ _ c.take.ensures c.if-not-take.false-raw

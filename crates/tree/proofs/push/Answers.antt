@@ -1,5 +1,6 @@
 -- `tree::push` meets its contract.
 use Rattle.laws.specs.Prelude.{◌∙◌, ◌≡◌, arith, false, sym, untagged}
+use Rattle.std.proofs.lemmas.Result.{err_from_is_err_and}
 use Rattle.tree.proofs.Calls.{called-shape, Fit, fit, push-below, push-done, push-over, push-root, root_stands, shape-few, shape-here}
 use Rattle.tree.proofs.push.Goals as goal
 use Rattle.tree.proofs.push.Goals.{After-capacity-cap, Start}
@@ -37,10 +38,12 @@ pub capacity-requires : goal.capacity-requires
 capacity-requires c = (fitting (goal.at.capacity-requires c).After-capacity-cap).few
 
 pub returns-then-n-capacity : goal.returns-then-n-capacity
-returns-then-n-capacity c = push-below (fitting (goal.at.returns-then-n-capacity c).After-capacity-cap) (start (goal.at.returns-then-n-capacity c).After-capacity-cap).args.x (has (goal.at.returns-then-n-capacity c).After-capacity-cap) _ _ c.put.ensures c.if-put.false _ (sym c.in-Held.is ∙ c.held-all.ensures) _ c.capacity.ensures.counts c.if-n-capacity.true
+returns-then-n-capacity c = push-below (fitting (goal.at.returns-then-n-capacity c).After-capacity-cap) (start (goal.at.returns-then-n-capacity c).After-capacity-cap).args.x (has (goal.at.returns-then-n-capacity c).After-capacity-cap) _ _ c.put.ensures c.if-put.false _ (sym c.in_ok-n.was ∙ c.held.ensures) _ c.capacity.ensures.counts c.if-n-capacity.true
 
-pub returns-in-Unknown : goal.returns-in-Unknown
-returns-in-Unknown c = push-root (fitting (goal.at.returns-in-Unknown c).After-capacity-cap) (start (goal.at.returns-in-Unknown c).After-capacity-cap).args.x (has (goal.at.returns-in-Unknown c).After-capacity-cap) _ _ c.put.ensures c.if-put.false _ (sym c.in-Unknown.is ∙ c.held-all.ensures)
+pub returns-in_err-n : goal.returns-in_err-n
+returns-in_err-n c =
+    let p = err_from_is_err_and c.from_residual.result c.from_residual.ensures.1 in
+    rw (p.1, p.2) (push-root (fitting (goal.at.returns-in_err-n c).After-capacity-cap) (start (goal.at.returns-in_err-n c).After-capacity-cap).args.x (has (goal.at.returns-in_err-n c).After-capacity-cap) _ _ c.put.ensures c.if-put.false _ (sym c.in_err-n.was ∙ c.held.ensures))
 
-pub returns-else-n-capacity : goal.returns-else-n-capacity
-returns-else-n-capacity c = push-over (fitting (goal.at.returns-else-n-capacity c).After-capacity-cap) (start (goal.at.returns-else-n-capacity c).After-capacity-cap).args.x (has (goal.at.returns-else-n-capacity c).After-capacity-cap) _ _ c.put.ensures c.if-put.false _ (sym c.in-Held.is ∙ c.held-all.ensures) _ c.capacity.ensures.counts c.if-n-capacity.false
+pub returns : goal.returns
+returns c = push-over (fitting (goal.at.returns c).After-capacity-cap) (start (goal.at.returns c).After-capacity-cap).args.x (has (goal.at.returns c).After-capacity-cap) _ _ c.put.ensures c.if-put.false _ (sym c.in_ok-n.was ∙ c.held.ensures) _ c.capacity.ensures.counts c.if-n-capacity.false

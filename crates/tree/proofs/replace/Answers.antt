@@ -45,14 +45,14 @@ returns-then-not-root c = called-damaged (fitting (goal.at.returns-then-not-root
 pub returns-then-j-order : goal.returns-then-j-order
 returns-then-j-order c = replace-none (fitting (goal.at.returns-then-j-order c).After-capacity-cap) _ _ c.look_low-root.ensures.whole c.look_low-root.ensures.place c.if-not-root.false (start (goal.at.returns-then-j-order c).After-capacity-cap).args.x (has (goal.at.returns-then-j-order c).After-capacity-cap) c.if-j-order.true
 
-pub slot_at-a-requires : goal.slot_at-a-requires
-slot_at-a-requires c = omega (arith, numbers (root_stands (fitting (goal.at.slot_at-a-requires c).After-capacity-cap)), opening c)
+pub slot_at-requires : goal.slot_at-requires
+slot_at-requires c = omega (arith, numbers (root_stands (fitting (goal.at.slot_at-requires c).After-capacity-cap)), opening c)
 
 pub swap-requires : goal.swap-requires
 swap-requires c = (opening (goal.at.swap-requires c).Else-j-order).looked
 
 pub returns-then-not-swap : goal.returns-then-not-swap
-returns-then-not-swap c = replace-broken (opening (goal.at.returns-then-not-swap c).Else-j-order) _ c.slot_at-a.ensures (start (at_count (goal.at.returns-then-not-swap c).Else-j-order)).args.x (has (at_count (goal.at.returns-then-not-swap c).Else-j-order)) _ _ c.swap.ensures c.if-not-swap.true-raw
+returns-then-not-swap c = replace-broken (opening (goal.at.returns-then-not-swap c).Else-j-order) _ c.slot_at.ensures (start (at_count (goal.at.returns-then-not-swap c).Else-j-order)).args.x (has (at_count (goal.at.returns-then-not-swap c).Else-j-order)) _ _ c.swap.ensures c.if-not-swap.true-raw
 
 pub returns : goal.returns
-returns c = replace-done (opening (goal.at.returns c).Else-j-order) _ c.slot_at-a.ensures (start (at_count (goal.at.returns c).Else-j-order)).args.x (has (at_count (goal.at.returns c).Else-j-order)) _ _ c.swap.ensures c.if-not-swap.false-raw
+returns c = replace-done (opening (goal.at.returns c).Else-j-order) _ c.slot_at.ensures (start (at_count (goal.at.returns c).Else-j-order)).args.x (has (at_count (goal.at.returns c).Else-j-order)) _ _ c.swap.ensures c.if-not-swap.false-raw

@@ -7,11 +7,11 @@ use Rattle.tree_mend.proofs.+node_whole_slot_whole.Goals as goal
 pub node_whole-returns-then-left-eq0 : goal.node_whole-returns-then-left-eq0
 node_whole-returns-then-left-eq0 t c = node-none _ _ _ _ _ c.if-left-eq0.true
 
-pub node_whole-overflow_mul-p : goal.node_whole-overflow_mul-p
-node_whole-overflow_mul-p t c = omega (arith, node-fits c.args.order c.args.left c.args.node c.args.s.now c.requires c.if-left-eq0.false)
+pub node_whole-overflow_mul-first : goal.node_whole-overflow_mul-first
+node_whole-overflow_mul-first t c = omega (arith, node-fits c.args.order c.args.left c.args.node c.args.s.now c.requires c.if-left-eq0.false)
 
-pub node_whole-overflow_add-end : goal.node_whole-overflow_add-end
-node_whole-overflow_add-end t c = omega (arith, node-fits c.args.order c.args.left c.args.node c.args.s.now c.requires c.if-left-eq0.false)
+pub node_whole-overflow_add-p-end : goal.node_whole-overflow_add-p-end
+node_whole-overflow_add-p-end t c = omega (arith, node-fits c.args.order c.args.left c.args.node c.args.s.now c.requires c.if-left-eq0.false)
 
 pub node_whole-loop-p-init : goal.node_whole-loop-p-init
 node_whole-loop-p-init t c = node-begins _ _ _ _ _ c.if-left-eq0.false
@@ -22,9 +22,6 @@ node_whole-slot_whole-requires t c =
 
 pub node_whole-returns-then-not-slot_whole : goal.node_whole-returns-then-not-slot_whole
 node_whole-returns-then-not-slot_whole t c = place-failed _ _ _ _ _ _ _ c.loop-p.invariant c.loop-p-test.true _ c.slot_whole.ensures c.if-not-slot_whole.true-raw
-
-pub node_whole-overflow_add-p : goal.node_whole-overflow_add-p
-node_whole-overflow_add-p t c = omega (arith, c.loop-p-test.true, node-fits c.args.order c.args.left c.args.node c.args.s.now c.requires c.if-left-eq0.false)
 
 pub node_whole-loop-p-preserved : goal.node_whole-loop-p-preserved
 node_whole-loop-p-preserved t c = place-passed _ _ _ _ _ _ _ c.loop-p.invariant c.loop-p-test.true _ c.slot_whole.ensures c.if-not-slot_whole.false-raw

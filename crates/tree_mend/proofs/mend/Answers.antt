@@ -18,8 +18,8 @@ mend_slots-skipped-requires c =
     (slots-are a.order a.levels a.from.now c.shape_of-shape.result c.shape_of-shape.ensures _ first c.if-not-shape_fits.false-raw)
     (slots-lie a.order a.levels a.from.now c.shape_of-shape.result c.shape_of-shape.ensures _ first c.if-not-shape_fits.false-raw) _ _ c.clear.ensures
 
-pub overflow_cast-number : goal.overflow_cast-number
-overflow_cast-number c =
+pub overflow_cast-result : goal.overflow_cast-result
+overflow_cast-result c =
     let a = c.args in
     let first = c.shape_fits.ensures _ _ c.shape_of-shape.ensures in
     let fits : c.mend_slots-skipped.result < 4294967296 =

@@ -53,8 +53,8 @@ overflow_sub-p c = next-less c
 pub overflow_add-p : goal.overflow_add-p
 overflow_add-p c = omega (arith, (bounds c).inside)
 
-pub slot_at-a-requires : goal.slot_at-a-requires
-slot_at-a-requires c = (bounds (goal.at.slot_at-a-requires c).In-loop-left).words
+pub slot_at-requires : goal.slot_at-requires
+slot_at-requires c = (bounds (goal.at.slot_at-requires c).In-loop-left).words
 
 pub overflow_add-count : goal.overflow_add-count
 overflow_add-count c = omega (arith, next_small (goal.at.overflow_add-count c).In-loop-left, c.loop-left.invariant.limit)
@@ -79,7 +79,7 @@ loop-left-smaller c = omega (arith, next_small (goal.at.loop-left-smaller c).In-
 
 pub loop-left-preserved : goal.loop-left-preserved
 loop-left-preserved c =
-    settle_goes _ _ _ _ _ _ _ _ c.loop-left.invariant c.loop-left-test.true (next (goal.at.loop-left-preserved c).In-loop-left) _ (next-is (goal.at.loop-left-preserved c).In-loop-left) refl _ _ c.slot_at-a.ensures
+    settle_goes _ _ _ _ _ _ _ _ c.loop-left.invariant c.loop-left-test.true (next (goal.at.loop-left-preserved c).In-loop-left) _ (next-is (goal.at.loop-left-preserved c).In-loop-left) refl _ _ c.slot_at.ensures
     (ap (λ (z : Element). slot z (next (goal.at.loop-left-preserved c).In-loop-left + 1)) c.stays-up.ensures) _ c.goes_down-down.ensures _ c.write_slot.ensures
 
 last-bounds : (c : After-loop-left) → Bounds c.args.order c.loop-left.first c.loop-left.left (c.loop-left.first + c.loop-left.left) c.loop-left.to

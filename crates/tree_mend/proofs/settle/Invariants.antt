@@ -1,5 +1,4 @@
 -- `tree_mend::settle` meets its contract.
-use Rattle.laws.specs.Prelude.{◌-◌}
 use Rattle.tree_mend.proofs.Paths.{Settling}
 use Rattle.tree_mend.proofs.settle.Given as goal
 

@@ -1,29 +1,26 @@
 -- `tree_node::capacity` meets its contract.
-use Rattle.laws.specs.Prelude.{arith}
+use Rattle.laws.specs.Prelude.{◌≡◌, arith, min}
 use Rattle.tree_node.proofs.Steps.{sum-eight, sum-four, sum-two, summed}
 use Rattle.tree_model.specs.Prelude.{room}
 use Rattle.tree_node.proofs.capacity.Goals as goal
 
-pub returns-then-order-eq2-clause-counts : goal.returns-then-order-eq2-clause-counts
+pub returns-in-2 : goal.returns-in-2
 unfolding room
-returns-then-order-eq2-clause-counts c = (summed _ 2 16 _ _ _ c.if-order-eq2.true (omega arith) (omega arith) (omega arith) c.capped.ensures (sum-two _ _ c.power-last.ensures.is)).0
+returns-in-2 c =
+    let k : c.min.result ≡ min c.args.levels 16 = omega arith in
+    let s = summed _ 2 16 _ _ _ c.in-2.is (omega arith) (omega arith) (omega arith) k (sum-two c.min.result (omega arith)) in
+    record { counts = s.0; stops = s.1 }
 
-pub returns-then-order-eq2-clause-stops : goal.returns-then-order-eq2-clause-stops
+pub returns-in-4 : goal.returns-in-4
 unfolding room
-returns-then-order-eq2-clause-stops c = (summed _ 2 16 _ _ _ c.if-order-eq2.true (omega arith) (omega arith) (omega arith) c.capped.ensures (sum-two _ _ c.power-last.ensures.is)).1
+returns-in-4 c =
+    let k : c.min-in-4.result ≡ min c.args.levels 9 = omega arith in
+    let s = summed _ 4 9 _ _ _ c.in-4.is (omega arith) (omega arith) (omega arith) k (sum-four c.min-in-4.result (omega arith)) in
+    record { counts = s.0; stops = s.1 }
 
-pub returns-then-order-eq4-clause-counts : goal.returns-then-order-eq4-clause-counts
+pub returns-in-8 : goal.returns-in-8
 unfolding room
-returns-then-order-eq4-clause-counts c = (summed _ 4 9 _ _ _ c.if-order-eq4.true (omega arith) (omega arith) (omega arith) c.capped-then-order-eq4.ensures (sum-four _ _ c.power-last-then-order-eq4.ensures.is)).0
-
-pub returns-then-order-eq4-clause-stops : goal.returns-then-order-eq4-clause-stops
-unfolding room
-returns-then-order-eq4-clause-stops c = (summed _ 4 9 _ _ _ c.if-order-eq4.true (omega arith) (omega arith) (omega arith) c.capped-then-order-eq4.ensures (sum-four _ _ c.power-last-then-order-eq4.ensures.is)).1
-
-pub returns-then-order-eq8-clause-counts : goal.returns-then-order-eq8-clause-counts
-unfolding room
-returns-then-order-eq8-clause-counts c = (summed _ 8 6 _ _ _ c.if-order-eq8.true (omega arith) (omega arith) (omega arith) c.capped-then-order-eq8.ensures (sum-eight _ _ c.power-last-then-order-eq8.ensures.is)).0
-
-pub returns-then-order-eq8-clause-stops : goal.returns-then-order-eq8-clause-stops
-unfolding room
-returns-then-order-eq8-clause-stops c = (summed _ 8 6 _ _ _ c.if-order-eq8.true (omega arith) (omega arith) (omega arith) c.capped-then-order-eq8.ensures (sum-eight _ _ c.power-last-then-order-eq8.ensures.is)).1
+returns-in-8 c =
+    let k : c.min-in-8.result ≡ min c.args.levels 6 = omega arith in
+    let s = summed _ 8 6 _ _ _ c.in-8.is (omega arith) (omega arith) (omega arith) k (sum-eight c.min-in-8.result (omega arith)) in
+    record { counts = s.0; stops = s.1 }

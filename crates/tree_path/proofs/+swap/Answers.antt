@@ -31,17 +31,17 @@ overflow_sub-under t c = lift-cap c.requires _ c.slot_at-a.ensures c.if-count-le
 pub nonzero_div-under : goal.nonzero_div-under
 nonzero_div-under t c = omega (arith, numbers c.requires.stands)
 
-pub find_low-p-requires : goal.find_low-p-requires
-find_low-p-requires t c = look_in (lift-stands c.requires _ c.slot_at-a.ensures c.if-count-le1.false)
+pub find_low-requires : goal.find_low-requires
+find_low-requires t c = look_in (lift-stands c.requires _ c.slot_at-a.ensures c.if-count-le1.false)
 
-pub returns-then-p-order : goal.returns-then-p-order
-returns-then-p-order t c = swap-off c.requires _ c.slot_at-a.ensures c.if-count-le1.false _ c.find_low-p.ensures.place c.find_low-p.ensures.within c.if-p-order.true c.args.x
+pub returns-in_default : goal.returns-in_default
+returns-in_default t c = swap-off c.requires _ c.slot_at-a.ensures c.if-count-le1.false c.in_default.ensures.place c.args.x
 
 pub overflow_add-below-2 : goal.overflow_add-below-2
-overflow_add-below-2 t c = omega (arith, numbers (lift-stands c.requires _ c.slot_at-a.ensures c.if-count-le1.false), lift-looked c.requires _ c.slot_at-a.ensures c.if-count-le1.false _ c.find_low-p.ensures.place c.find_low-p.ensures.within c.if-p-order.false)
+overflow_add-below-2 t c = omega (arith, numbers (lift-stands c.requires _ c.slot_at-a.ensures c.if-count-le1.false), lift-looked c.requires _ c.slot_at-a.ensures c.if-count-le1.false _ c.in-Some.ensures.place)
 
-pub slot_at-k-requires : goal.slot_at-k-requires
-slot_at-k-requires t c = omega (arith, numbers (lift-stands c.requires _ c.slot_at-a.ensures c.if-count-le1.false), lift-looked c.requires _ c.slot_at-a.ensures c.if-count-le1.false _ c.find_low-p.ensures.place c.find_low-p.ensures.within c.if-p-order.false)
+pub slot_at-requires : goal.slot_at-requires
+slot_at-requires t c = omega (arith, numbers (lift-stands c.requires _ c.slot_at-a.ensures c.if-count-le1.false), lift-looked c.requires _ c.slot_at-a.ensures c.if-count-le1.false _ c.in-Some.ensures.place)
 
 pub write_slot-requires-then-not-lower : goal.write_slot-requires-then-not-lower
 write_slot-requires-then-not-lower t c = omega (arith, numbers c.requires.stands, c.requires.inside)
@@ -50,19 +50,19 @@ pub shape_of-s-then-not-lower : goal.shape_of-s-then-not-lower
 shape_of-s-then-not-lower t c = c.write_slot-then-not-lower.auto.s
 
 pub returns-then-not-lower : goal.returns-then-not-lower
-returns-then-not-lower t c = swap-keeps c.requires _ c.slot_at-a.ensures c.if-count-le1.false _ c.find_low-p.ensures.place c.find_low-p.ensures.within c.if-p-order.false _ c.slot_at-k.ensures c.args.x _ c.lower.ensures c.if-not-lower.true-raw _ c.write_slot-then-not-lower.ensures
+returns-then-not-lower t c = swap-keeps c.requires _ c.slot_at-a.ensures c.if-count-le1.false _ c.in-Some.ensures.place _ c.slot_at.ensures c.args.x _ c.lower.ensures c.if-not-lower.true-raw _ c.write_slot-then-not-lower.ensures
 
 pub overflow_sub-left : goal.overflow_sub-left
 overflow_sub-left t c = omega (arith, c.requires.stands.some)
 
 pub swap-requires : goal.swap-requires
-swap-requires t c = (omega (arith, c.decreases, c.requires.stands.some), lift-looked c.requires _ c.slot_at-a.ensures c.if-count-le1.false _ c.find_low-p.ensures.place c.find_low-p.ensures.within c.if-p-order.false)
+swap-requires t c = (omega (arith, c.decreases, c.requires.stands.some), lift-looked c.requires _ c.slot_at-a.ensures c.if-count-le1.false _ c.in-Some.ensures.place)
 
 pub shape_of-s-then-not-swap : goal.shape_of-s-then-not-swap
 shape_of-s-then-not-swap t c = c.swap.auto.s
 
 pub returns-then-not-swap : goal.returns-then-not-swap
-returns-then-not-swap t c = swap-fails c.requires _ c.slot_at-a.ensures c.if-count-le1.false _ c.find_low-p.ensures.place c.find_low-p.ensures.within c.if-p-order.false _ c.slot_at-k.ensures c.args.x _ c.lower.ensures c.if-not-lower.false-raw _ _ c.swap.ensures c.if-not-swap.true-raw
+returns-then-not-swap t c = swap-fails c.requires _ c.slot_at-a.ensures c.if-count-le1.false _ c.in-Some.ensures.place _ c.slot_at.ensures c.args.x _ c.lower.ensures c.if-not-lower.false-raw _ _ c.swap.ensures c.if-not-swap.true-raw
 
 pub write_slot-requires-2 : goal.write_slot-requires-2
 write_slot-requires-2 t c = omega (arith, numbers c.requires.stands, c.requires.inside, c.swap.auto.s)
@@ -71,4 +71,4 @@ pub shape_of-s : goal.shape_of-s
 shape_of-s t c = c.write_slot-2.auto.s ∙ c.swap.auto.s
 
 pub returns : goal.returns
-returns t c = swap-passes c.requires _ c.slot_at-a.ensures c.if-count-le1.false _ c.find_low-p.ensures.place c.find_low-p.ensures.within c.if-p-order.false _ c.slot_at-k.ensures c.args.x _ c.lower.ensures c.if-not-lower.false-raw _ _ c.swap.ensures c.if-not-swap.false-raw _ c.write_slot-2.ensures
+returns t c = swap-passes c.requires _ c.slot_at-a.ensures c.if-count-le1.false _ c.in-Some.ensures.place _ c.slot_at.ensures c.args.x _ c.lower.ensures c.if-not-lower.false-raw _ _ c.swap.ensures c.if-not-swap.false-raw _ c.write_slot-2.ensures

@@ -17,7 +17,7 @@ pub shape_of-s-then-count-le1 : goal.shape_of-s-then-count-le1
 shape_of-s-then-count-le1 t c = c.write_slot.auto.s
 
 pub returns-then-count-le1 : goal.returns-then-count-le1
-returns-then-count-le1 t c = take_last c.requires _ c.slot_at-a.ensures c.if-count-le1.true _ _ c.no_element-none.ensures c.write_slot.ensures
+returns-then-count-le1 t c = take_last c.requires _ c.slot_at-a.ensures c.if-count-le1.true _ _ c.no_element.ensures c.write_slot.ensures
 
 pub overflow_add-below : goal.overflow_add-below
 overflow_add-below t c = omega (arith, numbers c.requires.stands, c.requires.inside)
@@ -31,29 +31,29 @@ overflow_sub-under t c = lift-cap c.requires _ c.slot_at-a.ensures c.if-count-le
 pub nonzero_div-under : goal.nonzero_div-under
 nonzero_div-under t c = omega (arith, numbers c.requires.stands)
 
-pub find_low-p-requires : goal.find_low-p-requires
-find_low-p-requires t c = look_in (lift-stands c.requires _ c.slot_at-a.ensures c.if-count-le1.false)
+pub find_low-requires : goal.find_low-requires
+find_low-requires t c = look_in (lift-stands c.requires _ c.slot_at-a.ensures c.if-count-le1.false)
 
-pub returns-then-p-order : goal.returns-then-p-order
-returns-then-p-order t c = take-off c.requires _ c.slot_at-a.ensures c.if-count-le1.false _ c.find_low-p.ensures.place c.find_low-p.ensures.within c.if-p-order.true
+pub returns-in_default : goal.returns-in_default
+returns-in_default t c = take-off c.requires _ c.slot_at-a.ensures c.if-count-le1.false c.in_default.ensures.place
 
 pub overflow_add-below-2 : goal.overflow_add-below-2
-overflow_add-below-2 t c = omega (arith, numbers (lift-stands c.requires _ c.slot_at-a.ensures c.if-count-le1.false), lift-looked c.requires _ c.slot_at-a.ensures c.if-count-le1.false _ c.find_low-p.ensures.place c.find_low-p.ensures.within c.if-p-order.false)
+overflow_add-below-2 t c = omega (arith, numbers (lift-stands c.requires _ c.slot_at-a.ensures c.if-count-le1.false), lift-looked c.requires _ c.slot_at-a.ensures c.if-count-le1.false _ c.in-Some.ensures.place)
 
-pub slot_at-k-requires : goal.slot_at-k-requires
-slot_at-k-requires t c = omega (arith, numbers (lift-stands c.requires _ c.slot_at-a.ensures c.if-count-le1.false), lift-looked c.requires _ c.slot_at-a.ensures c.if-count-le1.false _ c.find_low-p.ensures.place c.find_low-p.ensures.within c.if-p-order.false)
+pub slot_at-requires : goal.slot_at-requires
+slot_at-requires t c = omega (arith, numbers (lift-stands c.requires _ c.slot_at-a.ensures c.if-count-le1.false), lift-looked c.requires _ c.slot_at-a.ensures c.if-count-le1.false _ c.in-Some.ensures.place)
 
 pub overflow_sub-left : goal.overflow_sub-left
 overflow_sub-left t c = omega (arith, c.requires.stands.some)
 
 pub take-requires : goal.take-requires
-take-requires t c = (omega (arith, c.decreases, c.requires.stands.some), lift-looked c.requires _ c.slot_at-a.ensures c.if-count-le1.false _ c.find_low-p.ensures.place c.find_low-p.ensures.within c.if-p-order.false)
+take-requires t c = (omega (arith, c.decreases, c.requires.stands.some), lift-looked c.requires _ c.slot_at-a.ensures c.if-count-le1.false _ c.in-Some.ensures.place)
 
 pub shape_of-s-then-not-take : goal.shape_of-s-then-not-take
 shape_of-s-then-not-take t c = c.take.auto.s
 
 pub returns-then-not-take : goal.returns-then-not-take
-returns-then-not-take t c = take-fails c.requires _ c.slot_at-a.ensures c.if-count-le1.false _ c.find_low-p.ensures.place c.find_low-p.ensures.within c.if-p-order.false _ c.slot_at-k.ensures _ _ c.take.ensures c.if-not-take.true-raw
+returns-then-not-take t c = take-fails c.requires _ c.slot_at-a.ensures c.if-count-le1.false _ c.in-Some.ensures.place _ c.slot_at.ensures _ _ c.take.ensures c.if-not-take.true-raw
 
 pub write_slot-requires-2 : goal.write_slot-requires-2
 write_slot-requires-2 t c = omega (arith, numbers c.requires.stands, c.requires.inside, c.take.auto.s)
@@ -62,4 +62,4 @@ pub shape_of-s : goal.shape_of-s
 shape_of-s t c = c.write_slot-2.auto.s ∙ c.take.auto.s
 
 pub returns : goal.returns
-returns t c = take-passes c.requires _ c.slot_at-a.ensures c.if-count-le1.false _ c.find_low-p.ensures.place c.find_low-p.ensures.within c.if-p-order.false _ c.slot_at-k.ensures _ _ c.take.ensures c.if-not-take.false-raw _ c.write_slot-2.ensures
+returns t c = take-passes c.requires _ c.slot_at-a.ensures c.if-count-le1.false _ c.in-Some.ensures.place _ c.slot_at.ensures _ _ c.take.ensures c.if-not-take.false-raw _ c.write_slot-2.ensures

@@ -1,10 +1,9 @@
 -- `tree_plan::choose_low` meets its contract.
-use Rattle.tree_plan.proofs.Planning.{low-chosen, low-none, low-order}
-use Rattle.laws.specs.Prelude.{false≢true}
+use Rattle.tree_plan.proofs.Planning.{low-none, low-order}
 use Rattle.tree_plan.proofs.choose_low.Goals as goal
 
-pub returns-then-place-order : goal.returns-then-place-order
-returns-then-place-order c = record { order = low-none c.args.order c.args.at c.args.s.now c.args.room _ _ c.look_low-l.ensures.whole c.look_low-l.ensures.place c.if-place-order.true; chosen = λ z. absurd (false≢true z) }
+pub returns-then-l-order-clause-order : goal.returns-then-l-order-clause-order
+returns-then-l-order-clause-order c = low-none _ _ _ _ _ _ c.look_low-l.ensures.whole c.look_low-l.ensures.place c.if-l-order.true
 
-pub returns : goal.returns
-returns c = record { order = low-order c.args.order c.args.at c.args.s.now c.args.room _ _ c.look_low-l.ensures.whole c.look_low-l.ensures.place c.if-place-order.false c.look_low-l.ensures.within; chosen = low-chosen c.args.order c.args.at c.args.s.now c.args.room _ _ c.look_low-l.ensures.whole c.look_low-l.ensures.place c.if-place-order.false c.look_low-l.ensures.within _ c.slot_at-slot.ensures }
+pub returns-clause-order : goal.returns-clause-order
+returns-clause-order c = rw c.then_some.ensures (low-order _ _ _ _ _ _ c.look_low-l.ensures.whole c.look_low-l.ensures.place _ c.if-l-order.false c.look_low-l.ensures.within)

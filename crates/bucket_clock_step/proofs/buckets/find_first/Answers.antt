@@ -1,9 +1,11 @@
-use Rattle.bucket_clock_step.proofs.Linking.{found-far, found-is}
-use Rattle.laws.specs.Prelude.{refl}
+use Rattle.bucket_clock_step.proofs.Linking.{take-far, take-is}
 use Rattle.bucket_clock_step.proofs.buckets.find_first.Goals as goal
 
 pub returns-then-k-way : goal.returns-then-k-way
-returns-then-k-way c = found-far _ _ _ _ refl c.if-k-way.true
+returns-then-k-way c = take-far _ _ _ c.if-k-way.true
+
+pub returns-then-not-free_link-n : goal.returns-then-not-free_link-n
+returns-then-not-free_link-n c = take-is _ _ _ _ _ _ c.if-k-way.false c.bucket_at-low.ensures c.free_link.ensures c.next_of-behind.ensures _ c.if-not-free_link-n.true
 
 pub returns : goal.returns
-returns c = found-is _ _ _ _ _ c.requires c.if-k-way.false c.find_head-low.ensures c.free_link-free.ensures
+returns c = (take-is _ _ _ _ _ _ c.if-k-way.false c.bucket_at-low.ensures c.free_link.ensures c.next_of-behind.ensures _ c.if-not-free_link-n.false, c.bucket_at-low.ensures)

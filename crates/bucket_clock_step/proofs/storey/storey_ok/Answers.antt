@@ -1,4 +1,4 @@
-use Rattle.bucket_clock_step.proofs.Storeys.{ok-idle, ok-pop, ok-push, ok-replace}
+use Rattle.bucket_clock_step.proofs.Storeys.{ok-idle, ok-pop, ok-push}
 use Rattle.bucket_clock_step.proofs.storey.storey_ok.Goals as goal
 
 pub returns-in-Idle : goal.returns-in-Idle
@@ -9,6 +9,3 @@ returns-in-Push c = ok-push _ _ _ _ _ _ c.args.g _ _ c.in-Push.is c.push_ok.ensu
 
 pub returns-in-Pop : goal.returns-in-Pop
 returns-in-Pop c = ok-pop _ _ _ _ _ _ c.args.g _ c.in-Pop.is c.take_ok.ensures
-
-pub returns-in-Replace : goal.returns-in-Replace
-returns-in-Replace c = ok-replace _ _ _ _ _ _ c.args.g _ _ c.in-Replace.is c.replace_ok.ensures

@@ -9,4 +9,4 @@ use Rattle.card_bucket.proofs.pool.card_ports_push.Goals as goal
 pub returns : goal.returns
 returns c =
     let a = c.args in
-    bucket-done _ _ _ _ _ c.number.ensures (at-shape (λ (s : Shape). pushed s a.port a.bits.now a.words.now (element a.rank a.tag a.length)) _ _ _ c.shape_of-s.ensures c.push.ensures)
+    bucket-done _ _ _ _ _ c.number.ensures (at-shape (λ (s : Shape). pushed s a.port a.bits.now a.words.now (element a.rank a.tag a.length)) _ _ _ c.shape_of-s.ensures (rw c.element_of-e.ensures at c.push.ensures))

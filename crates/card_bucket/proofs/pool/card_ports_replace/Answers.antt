@@ -12,4 +12,4 @@ returns-then-out-lt-OUT c = bucket-short _ _ _ _ c.if-out-lt-OUT.true
 pub returns : goal.returns
 returns c =
     let a = c.args in
-    bucket-told _ _ _ _ _ _ _ _ _ c.if-out-lt-OUT.false (at-shape (λ (s : Shape). replaced s a.port a.bits.now a.words.now (element a.rank a.tag a.length)) _ _ _ c.shape_of-s.ensures c.replace-answer.ensures) c.tell.ensures
+    bucket-told _ _ _ _ _ _ _ _ _ c.if-out-lt-OUT.false (at-shape (λ (s : Shape). replaced s a.port a.bits.now a.words.now (element a.rank a.tag a.length)) _ _ _ c.shape_of-s.ensures (rw c.element_of-e.ensures at c.replace-answer.ensures)) c.tell.ensures

@@ -1,5 +1,5 @@
 use Rattle.cluster_clock_level.proofs.Rounds.{end-pass, end-works, go-first, go-next, go-pends, go-small, go-works}
-use Rattle.laws.specs.Prelude.{◌-◌, ◌∙◌, arith}
+use Rattle.laws.specs.Prelude.{◌∙◌, arith}
 use Rattle.cluster_clock_level.proofs.levels.run_levels.Goals as goal
 
 pub loop-i-init : goal.loop-i-init
@@ -33,10 +33,10 @@ pub loop-i-preserved : goal.loop-i-preserved
 loop-i-preserved c = (omega arith, go-next _ _ _ _ _ _ _ _ _ c.loop-i.invariant.1 c.loop-i-test.true _ _ c.settle-next.ensures _ _ c.begin-load.ensures (c.begin-load.auto.s ∙ c.settle-next.auto.s))
 
 pub begin-requires : goal.begin-requires
-begin-requires c = end-works _ _ _ _ _ _ _ _ _ c.loop-i.invariant.1 c.loop-i-test.false
+begin-requires c = end-works _ _ _ _ _ _ _ _ _ c.loop-i.invariant.1 (omega arith)
 
 pub shape_of-s : goal.shape_of-s
 shape_of-s c = c.begin.auto.s ∙ c.loop-i.invariant.1.whole
 
 pub returns : goal.returns
-returns c = end-pass _ _ _ _ _ _ _ _ _ c.loop-i.invariant.1 c.loop-i-test.false _ _ c.begin.ensures
+returns c = end-pass _ _ _ _ _ _ _ _ _ c.loop-i.invariant.1 (omega arith) _ _ c.begin.ensures

@@ -1,6 +1,6 @@
 use Rattle.cluster_clock_level.proofs.Drains.{drain-goes, drain-quiet, drain_runs, drain-spent, drain-starts, drain-stops}
 use Rattle.cluster_clock_level.proofs.Cycles.{shape-records}
-use Rattle.laws.specs.Prelude.{◌-◌, ◌∙◌, ap, arith, refl, suc}
+use Rattle.laws.specs.Prelude.{◌∙◌, ap, arith, refl, suc, sym, ◌≡◌}
 use Rattle.cluster_model.specs.Prelude.{shape_ok}
 use Rattle.cluster_clock_level.proofs.shaped.drain_shaped.Goals as goal
 
@@ -35,4 +35,7 @@ pub shape_of-store : goal.shape_of-store
 shape_of-store c = c.loop-run.invariant.1
 
 pub returns : goal.returns
-returns c = drain_runs _ _ _ _ _ c.requires.0 _ (drain-spent _ _ _ _ _ _ c.is_quiet-quiet.ensures _ _ _ _ _ (omega (arith, c.loop-run-test.false)) c.report-2.ensures ∙ c.loop-run.invariant.2)
+returns c =
+    let e : c.loop-run.run ≡ c.args.budget = omega arith in
+    let said = c.report-2.ensures in
+    drain_runs _ _ _ _ _ c.requires.0 _ (drain-spent _ _ _ _ _ _ c.is_quiet-quiet.ensures _ _ _ _ _ (omega arith) (said.0, said.1 ∙ sym e, said.2, said.3) ∙ c.loop-run.invariant.2)

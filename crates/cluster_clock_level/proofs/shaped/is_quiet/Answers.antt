@@ -1,5 +1,5 @@
 use Rattle.cluster_clock_level.proofs.Drains.{quiet-first, quiet-last, quiet_next}
-use Rattle.laws.specs.Prelude.{◌-◌, arith}
+use Rattle.laws.specs.Prelude.{arith}
 use Rattle.cluster_clock_level.proofs.shaped.is_quiet.Goals as goal
 
 pub loop-i-init : goal.loop-i-init
@@ -12,7 +12,7 @@ pub bounds-records-i : goal.bounds-records-i
 bounds-records-i c = omega (arith, c.requires)
 
 pub loop-i-preserved : goal.loop-i-preserved
-loop-i-preserved c = (omega arith, quiet_next _ _ _ c.loop-i.ok _ c.loop-i.invariant.1 c.loop-i-test.true c.is_nothing-ok.ensures)
+loop-i-preserved c = (omega arith, quiet_next _ _ _ c.loop-i.ok _ c.loop-i.invariant.1 (omega arith) c.is_nothing-ok.ensures)
 
 pub returns : goal.returns
-returns c = quiet-last _ _ _ c.loop-i.ok c.loop-i.invariant.1 c.loop-i-test.false
+returns c = quiet-last _ _ _ c.loop-i.ok c.loop-i.invariant.1 (omega arith)

@@ -1,5 +1,5 @@
 -- `trace_bytes::records::read_header` meets its contract.
-use Rattle.laws.specs.Prelude.{◌*◌, ◌+◌, ap₂, arith, ℕ}
+use Rattle.laws.specs.Prelude.{arith}
 use Rattle.trace_bytes.proofs.Read.{header-sign, header-shape, header-short, header-taken}
 use Rattle.trace_bytes.proofs.records.read_header.Goals as goal
 
@@ -19,4 +19,4 @@ pub returns-then-not-shape_taken : goal.returns-then-not-shape_taken
 returns-then-not-shape_taken c = header-shape _ c.if-bytes-lt7.false _ c.sign_ok.ensures c.if-not-sign_ok.false-raw _ c.shape_taken.ensures c.if-not-shape_taken.true-raw
 
 pub returns : goal.returns
-returns c = header-taken _ c.if-bytes-lt7.false _ c.sign_ok.ensures c.if-not-sign_ok.false-raw _ c.shape_taken.ensures c.if-not-shape_taken.false-raw _ (ap₂ (λ (a b : ℕ). a + 256 * b) c.wide.ensures.0 c.wide-2.ensures.0) _ c.headed.ensures
+returns c = header-taken _ c.if-bytes-lt7.false _ c.sign_ok.ensures c.if-not-sign_ok.false-raw _ c.shape_taken.ensures c.if-not-shape_taken.false-raw _ (omega (arith, c.from_le_bytes.ensures)) _ c.headed.ensures

@@ -16,4 +16,4 @@ pub returns-in-3 : goal.returns-in-3
 returns-in-3 c = entry-replace _ _ c.in-3.is
 
 pub returns-in-4-to-255 : goal.returns-in-4-to-255
-returns-in-4-to-255 c = entry_other _ _ (search rules)
+returns-in-4-to-255 c = entry_other _ _ (λ e. search rules) (λ e. search rules) (λ e. search rules) (λ e. search rules)

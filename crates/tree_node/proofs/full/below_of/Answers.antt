@@ -4,10 +4,10 @@ use Rattle.tree_model.specs.Prelude.{is_empty}
 use Rattle.tree_node.specs.Full.{below}
 use Rattle.tree_node.proofs.full.below_of.Goals as goal
 
-pub returns-then-count-eq0 : goal.returns-then-count-eq0
+pub returns-then-a-eq0 : goal.returns-then-a-eq0
 unfolding below is_empty
-returns-then-count-eq0 c = rw (eq-eqb c.args.a.count 0 c.if-count-eq0.true) refl
+returns-then-a-eq0 c = rw (eq-eqb c.args.a.count 0 c.if-a-eq0.true) refl
 
 pub returns : goal.returns
 unfolding below is_empty
-returns c = rw (ne_eqb c.args.a.count 0 c.if-count-eq0.false) refl
+returns c = rw (ne_eqb c.args.a.count 0 c.if-a-eq0.false) refl

@@ -2,8 +2,10 @@
 use Rattle.tree_node.proofs.Leads.{low-found-first, low-found-here}
 use Rattle.tree_node.proofs.scan.look_any.Goals as goal
 
-pub returns-then-place-order : goal.returns-then-place-order
-returns-then-place-order c = record { whole = c.look_turns-v.ensures.whole; place = (low-found-first _ _ _ _ c.look_turns-v.ensures.led _ c.if-place-order.true c.first_filled-first.ensures).0; within = (low-found-first _ _ _ _ c.look_turns-v.ensures.led _ c.if-place-order.true c.first_filled-first.ensures).1 }
+pub returns-then-v-order : goal.returns-then-v-order
+returns-then-v-order c =
+    let f = low-found-first _ _ _ _ c.look_turns-v.ensures.led _ c.if-v-order.true (rw c.unwrap_or-first.ensures c.first_filled.ensures) in
+    record { whole = c.look_turns-v.ensures.whole; place = f.0; within = f.1 }
 
-pub returns : goal.returns
-returns c = record { whole = c.look_turns-v.ensures.whole; place = (low-found-here _ _ _ _ c.look_turns-v.ensures.led c.look_turns-v.ensures.within c.if-place-order.false).0; within = (low-found-here _ _ _ _ c.look_turns-v.ensures.led c.look_turns-v.ensures.within c.if-place-order.false).1 }
+pub returns-clause-place : goal.returns-clause-place
+returns-clause-place c = (low-found-here _ _ _ _ c.look_turns-v.ensures.led c.look_turns-v.ensures.within c.if-v-order.false).0

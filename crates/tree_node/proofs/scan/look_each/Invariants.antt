@@ -1,12 +1,9 @@
 -- `tree_node::scan::look_each` meets its contract.
-use Rattle.laws.specs.Prelude.{◌-◌, ◌≡◌, ◌≤◌}
+use Rattle.laws.specs.Prelude.{◌≡◌}
 use Rattle.tree_model.specs.Prelude.{node_of, slot_ok}
 use Rattle.tree_node.proofs.Leads.{Sofar}
 use Rattle.tree_node.proofs.Scans.{every_to}
 use Rattle.tree_node.proofs.scan.look_each.Given as goal
 
 abbrev pub invariant-loop-j : goal.invariant-loop-j
-invariant-loop-j l = (l.j ≤ l.order) × (l.ok ≡ every_to (slot_ok l.room) (node_of l.order l.s l.at) l.j) × Sofar (node_of l.order l.s l.at) l.j l.best l.low
-
-abbrev pub decreases-loop-j : goal.decreases-loop-j
-decreases-loop-j l = l.order - l.j
+invariant-loop-j l = (l.ok ≡ every_to (slot_ok l.room) (node_of l.order l.s l.at) l.j) × Sofar (node_of l.order l.s l.at) l.j l.best l.low

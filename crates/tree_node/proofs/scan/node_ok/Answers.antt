@@ -8,7 +8,7 @@ unfolding every_to
 loop-j-init c = search rules
 
 pub loop-j-preserved : goal.loop-j-preserved
-loop-j-preserved c = (omega arith, every-next _ _ _ _ _ _ _ _ (search rules) c.loop-j.invariant.1 c.slot_at.ensures c.slot_ok-ok.ensures)
+loop-j-preserved c = every-next _ _ _ _ _ _ _ _ (search rules) c.loop-j.invariant c.slot_at.ensures c.slot_ok-ok.ensures
 
 pub returns : goal.returns
-returns c = node-ok-end _ _ _ _ _ _ (omega arith) c.loop-j.invariant.1
+returns c = node-ok-end _ _ _ _ _ _ (omega arith) c.loop-j.invariant

@@ -5,4 +5,4 @@ use Rattle.tree_node.proofs.scan.slot_ok.Goals as goal
 
 pub returns : goal.returns
 unfolding slot_ok is_empty
-returns c = rw (add-one, ← c.is_blank-blank.ensures)
+returns c = rw (add-one, ← c.is_blank.ensures)

@@ -8,7 +8,7 @@ unfolding sum_counts_to
 loop-j-init c = search rules
 
 pub loop-j-preserved : goal.loop-j-preserved
-loop-j-preserved c = (omega arith, omega arith, sum-next _ _ _ _ _ _ (search rules) c.loop-j.invariant.2 c.slot_at-a.ensures)
+loop-j-preserved c = (omega arith, sum-next _ _ _ _ _ _ (search rules) c.loop-j.invariant.1 c.slot_at.ensures)
 
 pub returns : goal.returns
-returns c = sum-end _ _ _ _ _ (omega arith) c.loop-j.invariant.2
+returns c = sum-end _ _ _ _ _ (omega arith) c.loop-j.invariant.1

@@ -6,4 +6,4 @@ pub returns-then-not-is_lent-read : goal.returns-then-not-is_lent-read
 returns-then-not-is_lent-read c = drain-unread _ _ _ _ _ _ c.is_lent.ensures _ c.if-not-is_lent-read.true-raw _ c.refused.ensures _
 
 pub returns : goal.returns
-returns c = drain-ended _ _ _ _ _ _ c.is_lent.ensures _ c.if-not-is_lent-read.false-raw _ _ _ _ _ _ c.drain-d.ensures _ c.due.ensures _ c.ended_by.ensures
+returns c = drain-ended _ _ _ _ _ _ c.is_lent.ensures _ c.if-not-is_lent-read.false-raw _ _ _ _ _ _ c.drain-d.ensures _ c.due-written.ensures _ c.ended_by.ensures
