@@ -200,7 +200,7 @@ pub fn shape_ok(k: usize, levels: usize, len: usize) -> bool
 }
 
 // How many elements so many levels hold.
-pub fn capacity(k: usize, levels: usize) -> usize
+fn capacity(k: usize, levels: usize) -> usize
     requires { (k ≤ 16) × (nodes_of levels ≤ place_limit) }
     ensures { result ≡ room k levels }
 {

@@ -2,14 +2,25 @@
 // be asked for in every cycle: nothing is ever too soon.
 #![tactic(auto)]
 
-ghost use Rattle.std.specs.Prelude.{◌≡◌};
+ghost use Rattle.std.specs.Prelude.{◌≡◌, ◌≤◌};
+ghost use Rattle.cluster.specs.Coded.{nodes_of};
 ghost use Rattle.cluster_clock_model.specs.Calls.{clock_cleared, clock_held, drain_outcome, drains, cycled, cycle_outcome};
+ghost use Rattle.cluster_model.specs.Heap.{room};
 
-use cluster::{capacity, shape_ok};
+use cluster::{nodes, shape_ok};
 pub use cluster_clock_level::shaped::fresh_records;
 use cluster_clock_level::shaped::{cycle_shaped, drain_shaped, open_root};
 use cluster_clock_model::{ClusterCycled, ClusterDrained, STAGES, Stage};
 use strip::{Element, Refusal, Request, left_as, report};
+
+// How many elements so many levels hold. As `cluster`'s own, and here once more: one that both call would be public, and ask its
+// callers for what only a tested shape gives.
+fn room_of(places: usize, levels: usize) -> usize
+    requires { (places ≤ 16) × (nodes_of levels ≤ 5460) }
+    ensures { result ≡ room places levels }
+{
+    places * nodes(levels)
+}
 
 // ---- a cycle
 
@@ -27,7 +38,7 @@ pub fn cycle(
         return left_as(Refusal::BadShape, records);
     }
     let below = levels - 1;
-    let top = capacity(places, below);
+    let top = room_of(places, below);
     cycle_shaped(store, places, below, top, records, request)
 }
 
@@ -93,7 +104,7 @@ pub fn held(store: &[u32], places: usize, levels: usize) -> Result<u32, Refusal>
     if !shape_ok(places, levels, store.len()) {
         return Err(Refusal::BadShape);
     }
-    let top = capacity(places, levels - 1);
+    let top = room_of(places, levels - 1);
     match open_root(store, places, top) {
         Some(root) => Ok(root.held as u32),
         None => Err(Refusal::Damaged),
@@ -116,6 +127,6 @@ pub fn drain(
         return report(Err(Refusal::BadShape), 0, false, records);
     }
     let below = levels - 1;
-    let top = capacity(places, below);
+    let top = room_of(places, below);
     drain_shaped(store, places, below, top, records, budget)
 }

@@ -9,11 +9,11 @@ returns-then-not-shape_ok c = bad-cycle c.args.places c.args.levels c.args.store
 pub overflow_sub-below : goal.overflow_sub-below
 overflow_sub-below c = let h = shape-here c.args.places c.args.levels c.args.store.now c.shape_ok.result c.shape_ok.ensures c.if-not-shape_ok.false-raw in omega (arith, h.some)
 
-pub capacity-top-requires : goal.capacity-top-requires
-capacity-top-requires c = ((shape-here c.args.places c.args.levels c.args.store.now c.shape_ok.result c.shape_ok.ensures c.if-not-shape_ok.false-raw).few, nodes-less c.args.places c.args.levels c.args.store.now c.shape_ok.result c.shape_ok.ensures c.if-not-shape_ok.false-raw)
+pub room_of-top-requires : goal.room_of-top-requires
+room_of-top-requires c = ((shape-here c.args.places c.args.levels c.args.store.now c.shape_ok.result c.shape_ok.ensures c.if-not-shape_ok.false-raw).few, nodes-less c.args.places c.args.levels c.args.store.now c.shape_ok.result c.shape_ok.ensures c.if-not-shape_ok.false-raw)
 
 pub cycle_shaped-requires : goal.cycle_shaped-requires
-cycle_shaped-requires c = (good-shape c.args.places c.args.levels c.args.store.now c.shape_ok.result c.shape_ok.ensures c.if-not-shape_ok.false-raw, c.capacity-top.ensures)
+cycle_shaped-requires c = (good-shape c.args.places c.args.levels c.args.store.now c.shape_ok.result c.shape_ok.ensures c.if-not-shape_ok.false-raw, c.room_of-top.ensures)
 
 pub returns : goal.returns
 returns c = good-cycle c.args.places c.args.levels c.args.store.now c.shape_ok.result c.shape_ok.ensures c.if-not-shape_ok.false-raw _ _ _ c.cycle_shaped.ensures
