@@ -28,8 +28,10 @@ pub fn hand_back(records: &mut [[u32; 6]], ended: ClusterEnded) -> u32
     requires { Ready ended (length records.old) }
     ensures { (records.new ≡ stages_back ended.count ended.stages records.old) × (result ≡ number_of ended.answer) }
 {
+    // a local of the loop here too: read out of `ended`, all of it is copied, and a clear takes twice the stack
+    let stages = ended.stages;
     for i in 0..ended.count {
-        records[i] = record_of(ended.stages[i]);
+        records[i] = record_of(stages[i]);
     }
     number(ended.answer)
 }

@@ -18,11 +18,11 @@ long c =
 pub loop-i-init : goal.loop-i-init
 loop-i-init c = back_none _ _
 
-pub offset_bounds-ended-i : goal.offset_bounds-ended-i
-offset_bounds-ended-i c = omega (arith, few c)
+pub offset_bounds-stages-i : goal.offset_bounds-stages-i
+offset_bounds-stages-i c = omega (arith, few c)
 
-pub bounds-ended-i : goal.bounds-ended-i
-bounds-ended-i c = few c
+pub bounds-stages-i : goal.bounds-stages-i
+bounds-stages-i c = few c
 
 pub record_of-requires : goal.record_of-requires
 record_of-requires c = c.requires.fits _ c.loop-i-test.true
