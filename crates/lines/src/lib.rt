@@ -83,13 +83,14 @@ fn call(s: &mut [u32], k: Rows, q: Request) -> Answer
         return Err(Refusal::Damaged);
     }
     let z = come_to(s, k, q, seen.sum);
-    let size = sizes_now(s, k, z.due);
-    let look = look_lines(s, k, z.due, size);
+    let due = z.due; // a local: handed on out of `z`, all of `z` stays on the stack
+    let size = sizes_now(s, k, due);
+    let look = look_lines(s, k, due, size);
     if !look.ok {
         return Err(Refusal::Damaged);
     }
-    count(s, k, z.due);
-    work(s, k, z.due, size, look.spot);
+    count(s, k, due);
+    work(s, k, due, size, look.spot);
     z.answer
 }
 
