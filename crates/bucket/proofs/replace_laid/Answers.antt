@@ -71,8 +71,10 @@ returns-in_default c =
     (lowest_of c.args.k c.args.bits.now c.args.words.now) refl c.in_default.ensures
 
 pub room_after-requires : goal.room_after-requires
-room_after-requires c = record { takable = (takes c).takable; rank_in = ranked (goal.at.room_after-requires c).Else-not-may_come }
+room_after-requires c = record { takable = (takes (goal.at.room_after-requires c).In-Some).takable; rank_in = ranked (goal.at.room_after-requires c).Else-not-may_come }
 
+-- what the bits' test asks: the slice has the words of all storeys, and a bit for either rank,
+-- and the pop's bit is set as far up as it would be cleared
 pub agrees_after-requires : goal.agrees_after-requires
 agrees_after-requires c = let t = takes (goal.at.agrees_after-requires c).In-Some in record { tall = all-tall _ _ _ t.stands; low_in = within _ _ _ _ t.stands t.takable.rank<; rank_in = within _ _ _ _ t.stands (ranked (goal.at.agrees_after-requires c).Else-not-may_come); switchable = t.set }
 
